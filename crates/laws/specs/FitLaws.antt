@@ -1,0 +1,193 @@
+-- Laws of lists cut or filled to a length, of lists by their values, and of a run of stores.
+use mathlib.Core.Path.{_≡_, refl, sym, ap, _∙_}
+use mathlib.Core.List.{List, [], _∷_, _++_, map}
+use Prim.Native.Nat.{ℕ, zero, suc, _+_, _-_, _≤_, _<_}
+use native.Mathlib.Nat.{not-suc-le-zero, zero-add, suc-add, sub-zero, suc-sub-suc}
+use native.Mathlib.Omega.{arith}
+use lib.ListN.{length, getD, set, take, replicate, length-set}
+use lib.Seq.{sets, set-append-left}
+use Rattle.laws.specs.Rows.{fit, tabulate}
+
+module _ {A : Type 0} where
+  -- ---- the values at 0, 1, .. n - 1
+
+  pub length-tabulate : (n : ℕ) (f : ℕ → A) → length (tabulate n f) ≡ n
+  unfolding tabulate
+  length-tabulate zero f = refl
+  length-tabulate (suc n) f = ap suc (length-tabulate n (λ i. f (suc i)))
+
+  pub getD-tabulate : (n : ℕ) (f : ℕ → A) (i : ℕ) (d : A) → i < n → getD (tabulate n f) i d ≡ f i
+  unfolding tabulate
+  getD-tabulate zero f i d h = absurd (not-suc-le-zero h)
+  getD-tabulate (suc n) f zero d h = refl
+  getD-tabulate (suc n) f (suc i) d h = getD-tabulate n (λ i. f (suc i)) i d (omega arith)
+
+  -- the function's value at any index, where it is `d` from the bound on
+  pub getD-tabulate-else : (n : ℕ) (f : ℕ → A) (i : ℕ) (d : A) → (n ≤ i → f i ≡ d) → getD (tabulate n f) i d ≡ f i
+  unfolding tabulate
+  getD-tabulate-else zero f i d h = sym (h (omega arith))
+  getD-tabulate-else (suc n) f zero d h = refl
+  getD-tabulate-else (suc n) f (suc i) d h = getD-tabulate-else n (λ i. f (suc i)) i d (λ l. h (omega arith))
+
+  -- functions that agree below the bound
+  pub tabulate-same : (n : ℕ) (f g : ℕ → A) → ((i : ℕ) → i < n → f i ≡ g i) → tabulate n f ≡ tabulate n g
+  unfolding tabulate
+  tabulate-same zero f g h = refl
+  tabulate-same (suc n) f g h =
+      λ k. h zero (omega arith) k ∷ tabulate-same n (λ i. f (suc i)) (λ i. g (suc i)) (λ i l. h (suc i) (omega arith)) k
+
+  pub tabulate-getD : (xs : List A) (d : A) → tabulate (length xs) (λ i. getD xs i d) ≡ xs
+  unfolding tabulate
+  tabulate-getD [] d = refl
+  tabulate-getD (x ∷ xs) d = ap (λ (r : List A). x ∷ r) (tabulate-getD xs d)
+
+  -- the first n values, then the m values from n on
+  pub tabulate-add : (n m : ℕ) (f : ℕ → A) → tabulate (n + m) f ≡ tabulate n f ++ tabulate m (λ i. f (n + i))
+  unfolding tabulate
+  tabulate-add zero m f = rw zero-add (tabulate-same m f (λ i. f (zero + i)) (λ i h. rw zero-add refl))
+  tabulate-add (suc n) m f =
+      rw suc-add
+      (ap (λ (r : List A). f zero ∷ r)
+      (tabulate-add n m (λ i. f (suc i))
+      ∙ ap (λ (r : List A). tabulate n (λ i. f (suc i)) ++ r)
+      (tabulate-same m (λ i. f (suc (n + i))) (λ i. f (suc n + i)) (λ i h. rw suc-add refl))))
+
+  -- ---- a list cut, or filled up, to n elements
+
+  pub fit-tabulate : (n : ℕ) (d : A) (xs : List A) → fit n d xs ≡ tabulate n (λ i. getD xs i d)
+  unfolding fit tabulate
+  fit-tabulate zero d xs = refl
+  fit-tabulate (suc n) d [] = ap (λ (r : List A). d ∷ r) (fit-tabulate n d [])
+  fit-tabulate (suc n) d (x ∷ xs) = ap (λ (r : List A). x ∷ r) (fit-tabulate n d xs)
+
+  pub length-fit : (n : ℕ) (d : A) (xs : List A) → length (fit n d xs) ≡ n
+  length-fit n d xs = rw fit-tabulate (length-tabulate n (λ i. getD xs i d))
+
+  -- an element below n is the list's own, or `d` past the list's end
+  pub getD-fit : (n : ℕ) (d : A) (xs : List A) (i : ℕ) → i < n → getD (fit n d xs) i d ≡ getD xs i d
+  getD-fit n d xs i h = rw fit-tabulate (getD-tabulate n (λ i. getD xs i d) i d h)
+
+  -- nothing to cut
+  pub fit-fill : (n : ℕ) (d : A) (xs : List A) → length xs ≤ n → fit n d xs ≡ xs ++ replicate (n - length xs) d
+  unfolding fit
+  fit-fill zero d [] h = refl
+  fit-fill zero d (x ∷ xs) h = absurd (not-suc-le-zero h)
+  fit-fill (suc n) d [] h = rw sub-zero (ap (λ (r : List A). d ∷ r) (fit-fill n d [] (omega arith) ∙ rw sub-zero refl))
+  fit-fill (suc n) d (x ∷ xs) h = rw suc-sub-suc (ap (λ (r : List A). x ∷ r) (fit-fill n d xs (omega arith)))
+
+  -- nothing to cut or fill
+  pub fit-all : (n : ℕ) (d : A) (xs : List A) → length xs ≡ n → fit n d xs ≡ xs
+  fit-all n d xs e = fit-tabulate n d xs ∙ rw (← e) (tabulate-getD xs d)
+
+  pub take-fit : (n : ℕ) (d : A) (xs : List A) → length xs ≤ n → take (length xs) (fit n d xs) ≡ xs
+  unfolding fit
+  take-fit n d [] h = refl
+  take-fit zero d (x ∷ xs) h = absurd (not-suc-le-zero h)
+  take-fit (suc n) d (x ∷ xs) h = ap (λ (r : List A). x ∷ r) (take-fit n d xs (omega arith))
+
+  -- cut to w and filled up again, where the list has nothing but `d` from w on
+  pub fit-take : (n : ℕ) (d : A) (w : ℕ) (xs : List A) → length xs ≡ n → ((k : ℕ) → w ≤ k → k < n → getD xs k d ≡ d) → xs ≡ fit n d (take w xs)
+  unfolding fit
+  fit-take zero d w [] e h = refl
+  fit-take zero d w (x ∷ xs) e h = absurd (omega arith)
+  fit-take (suc n) d w [] e h = absurd (omega arith)
+  fit-take (suc n) d zero (x ∷ xs) e h =
+      λ i. h 0 (omega arith) (omega arith) i ∷ fit-take n d zero xs (omega arith) (λ k l b. h (suc k) (omega arith) (omega arith)) i
+  fit-take (suc n) d (suc w) (x ∷ xs) e h =
+      ap (λ (r : List A). x ∷ r) (fit-take n d w xs (omega arith) (λ k l b. h (suc k) (omega arith) (omega arith)))
+
+  pub set-fit : (n : ℕ) (d : A) (xs : List A) (i : ℕ) (x : A) → i < length xs → set (fit n d xs) i x ≡ fit n d (set xs i x)
+  unfolding fit
+  set-fit zero d xs i x h = refl
+  set-fit (suc n) d [] i x h = absurd (not-suc-le-zero h)
+  set-fit (suc n) d (y ∷ xs) zero x h = refl
+  set-fit (suc n) d (y ∷ xs) (suc i) x h = ap (λ (r : List A). y ∷ r) (set-fit n d xs i x (omega arith))
+
+  pub fit-none : (n : ℕ) (d : A) → fit n d [] ≡ replicate n d
+  unfolding fit
+  fit-none zero d = refl
+  fit-none (suc n) d = ap (λ (r : List A). d ∷ r) (fit-none n d)
+
+  -- any element of a list of `d` alone, or past its end
+  pub getD-same : (n : ℕ) (d : A) (i : ℕ) → getD (replicate n d) i d ≡ d
+  getD-same zero d i = refl
+  getD-same (suc n) d zero = refl
+  getD-same (suc n) d (suc i) = getD-same n d i
+
+  -- filled up with what it is filled up with already
+  pub fit-replicate : (n m : ℕ) (d : A) → fit n d (replicate m d) ≡ fit n d []
+  unfolding fit
+  fit-replicate zero m d = refl
+  fit-replicate (suc n) zero d = refl
+  fit-replicate (suc n) (suc m) d = ap (λ (r : List A). d ∷ r) (fit-replicate n m d)
+
+  -- the element after those in hand, stored where the filling begins
+  pub set-fit-next : (n : ℕ) (d : A) (xs : List A) (k : ℕ) → k < length xs → set (fit n d (take k xs)) k (getD xs k d) ≡ fit n d (take (suc k) xs)
+  unfolding fit
+  set-fit-next zero d xs k h = refl
+  set-fit-next (suc n) d [] k h = absurd (not-suc-le-zero h)
+  set-fit-next (suc n) d (x ∷ xs) zero h = refl
+  set-fit-next (suc n) d (x ∷ xs) (suc k) h = ap (λ (r : List A). x ∷ r) (set-fit-next n d xs k (omega arith))
+
+  -- ---- stores
+
+  -- what holds of the element stored and of those before holds of each after
+  pub getD-set-keeps : (P : A → Type 0) (xs : List A) (i : ℕ) (x : A) (k : ℕ) (d : A) → P x → P (getD xs k d) → P (getD (set xs i x) k d)
+  getD-set-keeps P [] i x k d h g = g
+  getD-set-keeps P (y ∷ xs) zero x zero d h g = h
+  getD-set-keeps P (y ∷ xs) zero x (suc k) d h g = g
+  getD-set-keeps P (y ∷ xs) (suc i) x zero d h g = g
+  getD-set-keeps P (y ∷ xs) (suc i) x (suc k) d h g = getD-set-keeps P xs i x k d h g
+
+  pub sets-cons : (x : A) (xs : List A) (i : ℕ) (vs : List A) → sets (x ∷ xs) (suc i) vs ≡ x ∷ sets xs i vs
+  sets-cons x xs i [] = refl
+  sets-cons x xs i (v ∷ vs) = sets-cons x (set xs i v) (suc i) vs
+
+  pub sets-left : (xs ys : List A) (i : ℕ) (vs : List A) → i + length vs ≤ length xs → sets (xs ++ ys) i vs ≡ sets xs i vs ++ ys
+  sets-left xs ys i [] h = refl
+  sets-left xs ys i (v ∷ vs) h =
+      let l : i < length xs = omega arith in
+      rw (set-append-left xs ys i v l) (sets-left (set xs i v) ys (suc i) vs (rw length-set (omega arith)))
+
+  pub sets-right : (xs ys : List A) (i : ℕ) (vs : List A) → sets (xs ++ ys) (length xs + i) vs ≡ xs ++ sets ys i vs
+  sets-right [] ys i vs = rw zero-add refl
+  sets-right (x ∷ xs) ys i vs = rw suc-add (sets-cons x (xs ++ ys) (length xs + i) vs ∙ ap (λ (r : List A). x ∷ r) (sets-right xs ys i vs))
+
+  -- all of the list
+  pub sets-whole : (xs vs : List A) → length xs ≡ length vs → sets xs 0 vs ≡ vs
+  sets-whole [] [] h = refl
+  sets-whole [] (v ∷ vs) h = absurd (omega arith)
+  sets-whole (x ∷ xs) [] h = absurd (omega arith)
+  sets-whole (x ∷ xs) (v ∷ vs) h = sets-cons v xs 0 vs ∙ ap (λ (r : List A). v ∷ r) (sets-whole xs vs (omega arith))
+
+  -- two runs, the second where the first ends
+  pub sets-join : (xs : List A) (i : ℕ) (us vs : List A) → sets (sets xs i us) (i + length us) vs ≡ sets xs i (us ++ vs)
+  sets-join xs i [] vs = ap (λ (k : ℕ). sets xs k vs) (omega arith)
+  sets-join xs i (u ∷ us) vs = ap (λ (k : ℕ). sets (sets xs i (u ∷ us)) k vs) (omega arith) ∙ sets-join (set xs i u) (suc i) us vs
+
+module _ {A B : Type 0} (f : A → B) where
+  pub map-fit : (n : ℕ) (d : A) (xs : List A) → map f (fit n d xs) ≡ fit n (f d) (map f xs)
+  unfolding fit
+  map-fit zero d xs = refl
+  map-fit (suc n) d [] = ap (λ (r : List B). f d ∷ r) (map-fit n d [])
+  map-fit (suc n) d (x ∷ xs) = ap (λ (r : List B). f x ∷ r) (map-fit n d xs)
+
+  pub map-tabulate : (n : ℕ) (g : ℕ → A) → map f (tabulate n g) ≡ tabulate n (λ i. f (g i))
+  unfolding tabulate
+  map-tabulate zero g = refl
+  map-tabulate (suc n) g = ap (λ (r : List B). f (g zero) ∷ r) (map-tabulate n (λ i. g (suc i)))
+
+  pub map-set : (xs : List A) (i : ℕ) (x : A) → map f (set xs i x) ≡ set (map f xs) i (f x)
+  map-set [] i x = refl
+  map-set (y ∷ xs) zero x = refl
+  map-set (y ∷ xs) (suc i) x = ap (λ (r : List B). f y ∷ r) (map-set xs i x)
+
+  -- the image of an element that is there
+  pub getD-map : (xs : List A) (i : ℕ) (a : A) (b : B) → i < length xs → getD (map f xs) i b ≡ f (getD xs i a)
+  getD-map [] i a b h = absurd (not-suc-le-zero h)
+  getD-map (x ∷ xs) zero a b h = refl
+  getD-map (x ∷ xs) (suc i) a b h = getD-map xs i a b (omega arith)
+
+  pub map-replicate : (n : ℕ) (a : A) → map f (replicate n a) ≡ replicate n (f a)
+  map-replicate zero a = refl
+  map-replicate (suc n) a = ap (λ (r : List B). f a ∷ r) (map-replicate n a)

@@ -1,0 +1,88 @@
+-- Document 01: a task, a slot, the tables, the identifier, the next task.
+-- Tasks and slots are counted from 1. Where a number may be missing it is 0, and every use tests for that first.
+use mathlib.Core.Bool.{Bool}
+use mathlib.Core.List.{List, [], _∷_}
+use Prim.Native.Nat.{ℕ, suc, pred, _+_, _*_, _/_, _%_}
+use lib.Dec.{leb, ltb, eqb}
+use lib.ListN.{length, getD, set}
+use Rattle.laws.specs.Choose.{choose, _and_, isnt}
+use Rattle.rules.specs.declared.Task.{Task}
+use Rattle.rules.specs.Numbers.{maxPriority, waiting}
+
+pub record Slot : Type 0 where
+  -- goes up by one with each create in the slot, so that no identifier comes twice
+  pub generation : ℕ
+  -- 1 live, 0 free
+  pub live : ℕ
+  pub name : ℕ
+  pub attributes : ℕ
+  pub count : ℕ
+  -- the task that owns a binary semaphore, or 0
+  pub owner : ℕ
+  -- how often the owner has obtained it and not released it
+  pub nest : ℕ
+  -- the tasks that wait, first to be served first
+  pub queue : List ℕ
+
+-- N is the number of tasks, S the number of slots
+pub record Tables : Type 0 where
+  pub tasks : List Task
+  pub slots : List Slot
+
+abbrev pub unstarted : Tables
+unstarted = record { tasks = []; slots = [] }
+
+-- what a look beyond N or S finds
+abbrev pub noTask : Task
+noTask = record { priority = 0; answer = 0; awaited = 0; ticks = 0 }
+
+abbrev pub freeSlot : ℕ → Slot
+freeSlot g = record { generation = g; live = 0; name = 0; attributes = 0; count = 0; owner = 0; nest = 0; queue = [] }
+
+abbrev pub taskOf : Tables → ℕ → Task
+taskOf t q = getD (t .tasks) (pred q) noTask
+
+abbrev pub slotOf : Tables → ℕ → Slot
+slotOf t n = getD (t .slots) (pred n) (freeSlot 0)
+
+abbrev pub putTask : Tables → ℕ → Task → Tables
+putTask t q v = record { tasks = set (t .tasks) (pred q) v; slots = t .slots }
+
+abbrev pub putSlot : Tables → ℕ → Slot → Tables
+putSlot t n s = record { tasks = t .tasks; slots = set (t .slots) (pred n) s }
+
+-- a task waits exactly while its answer is 100
+abbrev pub waits : Task → Bool
+waits v = eqb (v .answer) waiting
+
+abbrev pub isLive : Slot → Bool
+isLive s = eqb (s .live) 1
+
+-- the priority number that a queue with PRIORITY goes by: the least is served first
+abbrev pub urgency : Tables → ℕ → ℕ
+urgency t q = taskOf t q .priority
+
+-- the identifier of the semaphore in slot n (H, in place of the RTEMS layout)
+abbrev pub idOf : ℕ → Slot → ℕ
+idOf n s = s .generation * 65536 + n
+
+-- an identifier names a live semaphore: its slot is one of the S, live, and of its generation
+abbrev pub names : Tables → ℕ → Bool
+names t id =
+    leb 1 (id % 65536) and leb (id % 65536) (length (t .slots)) and isLive (slotOf t (id % 65536))
+    and eqb (slotOf t (id % 65536) .generation) (id / 65536)
+
+-- the slot that an identifier names, or 0
+abbrev pub slotNamed : Tables → ℕ → ℕ
+slotNamed t id = choose (names t id) (id % 65536) 0
+
+-- from task q on: `best` is the most urgent ready task before q, of priority p; 0 and 256 where there is none yet
+unfoldable pub mostUrgent : List Task → ℕ → ℕ → ℕ → ℕ
+mostUrgent [] q best p = best
+mostUrgent (v ∷ vs) q best p =
+    let better = isnt (waits v) and ltb (v .priority) p in
+    mostUrgent vs (suc q) (choose better q best) (choose better (v .priority) p)
+
+-- the ready task with the least priority number, among equals the lowest task number, or 0 if none is ready
+unfoldable pub next : Tables → ℕ
+next t = mostUrgent (t .tasks) 1 0 (suc maxPriority)

@@ -1,0 +1,93 @@
+-- Document 01: limits, status numbers and attributes.
+use Prim.Native.Nat.{ℕ}
+use mathlib.Core.Bool.{Bool}
+use lib.Dec.{leb, eqb}
+use Rattle.laws.specs.Choose.{choose, _and_, _or_}
+
+-- tasks 1..32, slots 1..64, priorities 1..255, generations 0..65535, every other number 0..4294967295
+abbrev pub maxTasks : ℕ
+maxTasks = 32
+
+abbrev pub maxSlots : ℕ
+maxSlots = 64
+
+abbrev pub maxPriority : ℕ
+maxPriority = 255
+
+abbrev pub maxGeneration : ℕ
+maxGeneration = 65535
+
+abbrev pub maxNumber : ℕ
+maxNumber = 4294967295
+
+-- a number from `low` to `high`
+abbrev pub within : ℕ → ℕ → ℕ → Bool
+within low high n = leb low n and leb n high
+
+-- status numbers: those of the RTEMS Classic headers, and our own 100
+abbrev pub successful : ℕ
+successful = 0
+
+abbrev pub invalidName : ℕ
+invalidName = 3
+
+abbrev pub invalidId : ℕ
+invalidId = 4
+
+abbrev pub tooMany : ℕ
+tooMany = 5
+
+abbrev pub timeout : ℕ
+timeout = 6
+
+abbrev pub objectWasDeleted : ℕ
+objectWasDeleted = 7
+
+abbrev pub invalidNumber : ℕ
+invalidNumber = 10
+
+abbrev pub notDefined : ℕ
+notDefined = 11
+
+abbrev pub resourceInUse : ℕ
+resourceInUse = 12
+
+abbrev pub unsatisfied : ℕ
+unsatisfied = 13
+
+abbrev pub incorrectState : ℕ
+incorrectState = 14
+
+abbrev pub calledFromIsr : ℕ
+calledFromIsr = 18
+
+abbrev pub invalidPriority : ℕ
+invalidPriority = 19
+
+abbrev pub notOwnerOfResource : ℕ
+notOwnerOfResource = 23
+
+abbrev pub internalError : ℕ
+internalError = 25
+
+abbrev pub waiting : ℕ
+waiting = 100
+
+-- attributes that create allows: 4 is PRIORITY (else FIFO); 16 is binary, 32 simple binary, neither counting
+abbrev pub allowed : ℕ → Bool
+allowed a = eqb a 0 or eqb a 4 or eqb a 16 or eqb a 20 or eqb a 32 or eqb a 36
+
+abbrev pub byPriority : ℕ → Bool
+byPriority a = eqb a 4 or eqb a 20 or eqb a 36
+
+-- binary with owner
+abbrev pub isBinary : ℕ → Bool
+isBinary a = eqb a 16 or eqb a 20
+
+-- simple binary
+abbrev pub isSimple : ℕ → Bool
+isSimple a = eqb a 32 or eqb a 36
+
+-- the count at which a release is 13; a binary semaphore that its owner releases has count 0, so there it never decides
+abbrev pub maximum : ℕ → ℕ
+maximum a = choose (isBinary a or isSimple a) 1 maxNumber

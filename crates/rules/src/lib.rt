@@ -1,0 +1,131 @@
+// The records of calls and tables; specs/ has the rules of document 01 over them.
+ghost use mathlib.Core.Path.{_≡_};
+ghost use Rattle.rules.specs.Numbers.{allowed, byPriority, isBinary, isSimple};
+ghost use Rattle.rules.specs.Semaphore.{waitOf};
+
+// A task: ready or waiting. Its answer is 100 exactly while it waits, else the ending of its latest wait.
+pub struct Task {
+    pub priority: u32,
+    pub answer: u32,
+    // the identifier waited on, 0 for a ready task
+    pub awaited: u32,
+    // ticks left of the wait, 0 is for ever; 0 for a ready task
+    pub ticks: u32,
+}
+
+// How an obtain waits.
+pub enum Wait {
+    Poll,
+    Forever,
+    Ticks(u32),
+}
+
+// A call. The priorities of a start stand beside it: a list in an enum is not covered by the prover.
+pub enum Call {
+    Start {
+        slots: u32,
+    },
+    Create {
+        caller: u32,
+        name: u32,
+        count: u32,
+        attributes: u32,
+    },
+    Ident {
+        name: u32,
+    },
+    Delete {
+        caller: u32,
+        id: u32,
+    },
+    Obtain {
+        caller: u32,
+        id: u32,
+        wait: Wait,
+    },
+    Release {
+        caller: u32,
+        id: u32,
+    },
+    Flush {
+        caller: u32,
+        id: u32,
+    },
+    Tick,
+}
+
+// What each call answers.
+#[repr(C)]
+pub struct Answer {
+    pub status: u32,
+    pub value: u32,
+    pub next: u32,
+}
+
+// How to wait, from the options and the timeout of an obtain.
+pub fn wait_of(options: u32, timeout: u32) -> Wait
+    ensures { λ r. ⌜ r ≡ waitOf options timeout ⌝ }
+{
+    if options % 2 == 1 {
+        return Wait::Poll;
+    }
+    if timeout == 0 {
+        return Wait::Forever;
+    }
+    Wait::Ticks(timeout)
+}
+
+// Attributes that create allows.
+pub fn is_allowed(attributes: u32) -> bool
+    ensures { λ r. ⌜ r ≡ allowed attributes ⌝ }
+{
+    if attributes == 0 {
+        return true;
+    }
+    if attributes == 4 {
+        return true;
+    }
+    if attributes == 16 {
+        return true;
+    }
+    if attributes == 20 {
+        return true;
+    }
+    if attributes == 32 {
+        return true;
+    }
+    attributes == 36
+}
+
+// PRIORITY, else FIFO.
+pub fn is_by_priority(attributes: u32) -> bool
+    ensures { λ r. ⌜ r ≡ byPriority attributes ⌝ }
+{
+    if attributes == 4 {
+        return true;
+    }
+    if attributes == 20 {
+        return true;
+    }
+    attributes == 36
+}
+
+// Binary with owner.
+pub fn is_binary(attributes: u32) -> bool
+    ensures { λ r. ⌜ r ≡ isBinary attributes ⌝ }
+{
+    if attributes == 16 {
+        return true;
+    }
+    attributes == 20
+}
+
+// Simple binary.
+pub fn is_simple(attributes: u32) -> bool
+    ensures { λ r. ⌜ r ≡ isSimple attributes ⌝ }
+{
+    if attributes == 32 {
+        return true;
+    }
+    attributes == 36
+}
