@@ -1,0 +1,5 @@
+pub mod Forward
+pub mod Steps
+pub mod Used
+pub mod Done
+pub mod Identifiers
