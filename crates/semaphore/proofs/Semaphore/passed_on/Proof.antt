@@ -1,0 +1,94 @@
+-- `semaphore::Semaphore::passed_on` meets its contract: each return is a case of the rule.
+use borrow.Author.Needs.{needs}
+use mathlib.Core.Path.{sym, _∙_}
+use native.Mathlib.Omega.{arith}
+use lib.Seq.{getD-take}
+use Rattle.semaphore.specs.Record.{slotFrom}
+use Rattle.semaphore.proofs.Steps.{stands-itself, stands-counted, stands-as, stands-left, length-queue, gave, pass-owned, pass-handed, pass-full, pass-raised}
+use Prim.Native.Nat.{_≤_, _<_}
+use lib.ListN.{length}
+use Rattle.semaphore.proofs.Semaphore.passed_on.Statement.{statement}
+use Rattle.semaphore.proofs.Semaphore.passed_on.Tie as tie
+
+array-read-first : tie.Need-array-read-first
+array-read-first c = search needs
+
+advanced-requires : tie.Need-advanced-requires
+advanced-requires c κs = search needs
+
+queued-requires : tie.Need-queued-requires
+queued-requires c κs = search needs
+
+is-binary-requires : tie.Need-is-binary-requires
+is-binary-requires c κs = search needs
+
+counted-requires : tie.Need-counted-requires
+counted-requires c κs = search needs
+
+returns : tie.Need-returns
+returns c =
+    let start = c .before .before .before .before .before .before .before .before .before in
+    let s = start .args .self in
+    let p = start .pre .0 in
+    let some : 1 ≤ length (slotFrom s .queue) = omega (arith, length-queue s p) in
+    let first = getD-take (s .waiters) (s .queue) 0 0 (omega arith) in
+    let binary = sym (c .before .before .is-binary .ensures) ∙ c .before .if2 .taken in
+    gave (pass-owned (slotFrom s) some _ first binary)
+    (stands-as (c .counted .ensures)
+    (stands-counted (stands-as (c .before .before .before .queued .ensures) (stands-left s p _ (c .before .before .before .before .before .advanced .ensures))) _ _ _))
+
+returns-2 : tie.Need-returns-2
+returns-2 c =
+    let start = c .before .before .before .before .before .before .before .before in
+    let s = start .args .self in
+    let p = start .pre .0 in
+    let some : 1 ≤ length (slotFrom s .queue) = omega (arith, length-queue s p) in
+    let first = getD-take (s .waiters) (s .queue) 0 0 (omega arith) in
+    let other = sym (c .before .is-binary .ensures) ∙ c .if2 .left in
+    gave (pass-handed (slotFrom s) some _ first other)
+    (stands-as (c .before .before .queued .ensures) (stands-left s p _ (c .before .before .before .before .advanced .ensures)))
+
+maximum-requires : tie.Need-maximum-requires
+maximum-requires c κs = search needs
+
+returns-3 : tie.Need-returns-3
+returns-3 c =
+    let start = c .before .before .before .before .before in
+    let s = start .args .self in
+    let p = start .pre .0 in
+    let none : length (slotFrom s .queue) < 1 = omega (arith, length-queue s p) in
+    let most = c .if3 .taken ∙ c .before .before .maximum .ensures in
+    gave (pass-full (slotFrom s) none most)
+    (stands-itself p)
+
+add-counted : tie.Need-add-counted
+add-counted c = search needs
+
+counted-requires-2 : tie.Need-counted-requires-2
+counted-requires-2 c κs = search needs
+
+returns-4 : tie.Need-returns-4
+returns-4 c =
+    let start = c .before .before .before .before .before .before .before in
+    let s = start .args .self in
+    let p = start .pre .0 in
+    let none : length (slotFrom s .queue) < 1 = omega (arith, length-queue s p) in
+    gave (pass-raised (slotFrom s) none (λ e. c .before .before .if3 .left (e ∙ sym (c .before .before .before .before .maximum .ensures))))
+    (stands-as (c .counted2 .ensures) (stands-counted (stands-itself p) _ _ _))
+
+pub passed-on-spec : {M : Type 1} → statement M
+passed-on-spec =
+    tie.close
+    (tie.spec
+    array-read-first
+    advanced-requires
+    queued-requires
+    is-binary-requires
+    counted-requires
+    returns
+    returns-2
+    maximum-requires
+    returns-3
+    add-counted
+    counted-requires-2
+    returns-4)

@@ -1,0 +1,220 @@
+-- What each answer of the code is among the cases of the rules.
+use mathlib.Core.Path.{_≡_, refl, sym, ap, subst, _∙_}
+use mathlib.Core.Bool.{Bool, true, false}
+use mathlib.Core.List.{List, []}
+use Prim.Native.Nat.{ℕ, _+_, _-_, _≤_, _<_}
+use native.Mathlib.Omega.{arith}
+use lib.ListN.{length, getD, take, drop, length-take, length-drop}
+use lib.Dec.{eqb}
+use borrow.Author.Tests.{eq-eqb, le-leb, lt-leb}
+use Rattle.laws.specs.Choose.{_and_, isnt, if-yes, if-no, if-le, if-not-le, if-eq, if-ne, choose-same, both-and, and-both, false-isnt}
+use Rattle.laws.specs.Rows.{fit}
+use Rattle.laws.specs.FitLaws.{length-fit}
+use Rattle.rules.specs.declared.Wait.{Wait}
+use Rattle.rules.specs.Machine.{Slot}
+use Rattle.rules.specs.Numbers.{isBinary, maximum}
+use Rattle.rules.specs.Semaphore.{insertAt, ownedBy, polls, takeStep, giveStep}
+use Rattle.rules.specs.Semaphore as rules
+use Rattle.rules.specs.Calls.{newSemaphore}
+use Rattle.semaphore.specs.declared.Semaphore.{Semaphore}
+use Rattle.semaphore.specs.declared.Given.{Given}
+use Rattle.semaphore.specs.Record.{slotFrom, requeued, counting, queueing, Padded, Stands, TakenIs, GivenIs, passStep}
+use Rattle.semaphore.proofs.Queue.{held, insert-fit, length-insert, drop-fit}
+
+-- the tasks that wait
+abbrev pub waitersOf : Semaphore → List ℕ
+waitersOf s = take (s .waiters) (s .queue)
+
+-- a binary semaphore is the caller's
+abbrev pub heldBy : Slot → ℕ → Bool
+heldBy s caller = isBinary (s .attributes) and ownedBy s caller
+
+-- ---- a record stands for a slot
+
+pub stands-itself : {s : Semaphore} → Padded s → Stands s (slotFrom s)
+stands-itself p = record { same = refl; padded = p }
+
+pub stands-counted : {s : Semaphore} {slot : Slot} → Stands s slot → (count owner nest : ℕ) → Stands (counting s count owner nest) (rules.counted slot count owner nest (slot .queue))
+stands-counted st count owner nest =
+    record {
+      same = ap (λ (t : Slot). rules.counted t count owner nest (t .queue)) (st .same);
+      padded = record { few = st .padded .few; filled = st .padded .filled };
+    }
+
+pub stands-queued : (s : Semaphore) (w : ℕ) (queue qs : List ℕ) → queue ≡ fit 32 0 qs → w ≡ length qs → length qs ≤ 32 → Stands (queueing s w queue) (requeued (slotFrom s) qs)
+stands-queued s w queue qs e l few =
+    let same : take w queue ≡ qs = rw e (held 32 0 qs w l few) in
+    record {
+      same = ap (λ (q : List ℕ). requeued (slotFrom s) q) same;
+      padded = record { few = omega arith; filled = e ∙ ap (fit 32 0) (sym same) };
+    }
+
+pub stands-as : {s made : Semaphore} {slot : Slot} → s ≡ made → Stands made slot → Stands s slot
+stands-as {slot = slot} e st = subst (λ (r : Semaphore). Stands r slot) (sym e) st
+
+-- ---- the queue of a padded record
+
+module _ (s : Semaphore) (p : Padded s) where
+  pub length-queue : length (waitersOf s) ≡ s .waiters
+  length-queue =
+      let full : length (s .queue) ≡ 32 = ap length (p .filled) ∙ length-fit 32 0 (waitersOf s) in
+      omega (arith, length-take (s .waiters) (s .queue), p .few)
+
+  pub stands-joined : (place q : ℕ) (queue : List ℕ) → s .waiters < 32 → place ≤ s .waiters → queue ≡ fit 32 0 (insertAt place q (s .queue)) → Stands (queueing s (s .waiters + 1) queue) (requeued (slotFrom s) (insertAt place q (waitersOf s)))
+  stands-joined place q queue h l e =
+      let more : length (insertAt place q (waitersOf s)) ≡ _ = length-insert q place (waitersOf s) (omega (arith, length-queue)) in
+      stands-queued s (s .waiters + 1) queue (insertAt place q (waitersOf s))
+      (e
+      ∙ ap (λ (xs : List ℕ). fit 32 0 (insertAt place q xs)) (p .filled)
+      ∙ insert-fit q 32 32 place (waitersOf s) (omega (arith, length-queue)) (omega (arith, length-queue)))
+      (omega (arith, length-queue))
+      (omega (arith, length-queue))
+
+  pub stands-left : (queue : List ℕ) → queue ≡ fit 32 0 (drop 1 (s .queue)) → Stands (queueing s (s .waiters - 1) queue) (requeued (slotFrom s) (drop 1 (waitersOf s)))
+  stands-left queue e =
+      let less : length (drop 1 (waitersOf s)) ≡ _ = length-drop 1 (waitersOf s) in
+      stands-queued s (s .waiters - 1) queue (drop 1 (waitersOf s))
+      (e
+      ∙ ap (λ (xs : List ℕ). fit 32 0 (drop 1 xs)) (p .filled)
+      ∙ drop-fit 32 32 (waitersOf s) (omega (arith, length-queue, p .few)))
+      (omega (arith, length-queue))
+      (omega (arith, length-queue, p .few))
+
+-- ---- take
+
+pub took : {s : Semaphore} {status : ℕ} {slot : Slot} {rule : rules.Taken} → rule ≡ record { status = status; slot = slot } → Stands s slot → TakenIs (record { status = status; semaphore = s }) rule
+took {s} e st =
+    record {
+      status = ap (λ (r : rules.Taken). r .status) (sym e);
+      semaphore = subst (λ (r : rules.Taken). Stands s (r .slot)) (sym e) st;
+    }
+
+module _ (s : Slot) (caller place : ℕ) (wait : Wait) where
+  pub take-owned : 1 ≤ s .count → isBinary (s .attributes) ≡ true → takeStep s caller place wait ≡ record { status = 0; slot = rules.counted s (s .count - 1) caller 1 (s .queue) }
+  unfolding takeStep
+  take-owned h b =
+      if-le _ _ _ _ h
+      ∙ (λ i. record { status = 0; slot = rules.counted s (s .count - 1) (if-yes caller (s .owner) b i) (if-yes 1 (s .nest) b i) (s .queue) })
+
+  pub take-passed : 1 ≤ s .count → isBinary (s .attributes) ≡ false → takeStep s caller place wait ≡ record { status = 0; slot = rules.counted s (s .count - 1) (s .owner) (s .nest) (s .queue) }
+  unfolding takeStep
+  take-passed h b =
+      if-le _ _ _ _ h
+      ∙ (λ i. record { status = 0; slot = rules.counted s (s .count - 1) (if-no caller (s .owner) b i) (if-no 1 (s .nest) b i) (s .queue) })
+
+  module _ (none : s .count < 1) where
+    pub take-full : heldBy s caller ≡ true → s .nest ≡ 4294967295 → takeStep s caller place wait ≡ record { status = 13; slot = s }
+    unfolding takeStep
+    take-full own h = if-not-le _ _ _ _ none ∙ if-yes _ _ own ∙ if-eq _ _ _ _ h
+
+    pub take-nested : heldBy s caller ≡ true → (s .nest ≡ 4294967295 → ⊥) → takeStep s caller place wait ≡ record { status = 0; slot = rules.counted s (s .count) (s .owner) (s .nest + 1) (s .queue) }
+    unfolding takeStep
+    take-nested own h = if-not-le _ _ _ _ none ∙ if-yes _ _ own ∙ if-ne _ _ _ _ h
+
+    pub take-refused : heldBy s caller ≡ false → polls wait ≡ true → takeStep s caller place wait ≡ record { status = 13; slot = s }
+    unfolding takeStep
+    take-refused own h = if-not-le _ _ _ _ none ∙ if-no _ _ own ∙ if-yes _ _ h
+
+    pub take-waits : heldBy s caller ≡ false → polls wait ≡ false → takeStep s caller place wait ≡ record { status = 100; slot = requeued s (insertAt place caller (s .queue)) }
+    unfolding takeStep
+    take-waits own h = if-not-le _ _ _ _ none ∙ if-no _ _ own ∙ if-no _ _ h
+
+-- ---- who holds a semaphore
+
+module _ (s : Slot) (caller : ℕ) where
+  pub unheld-class : isBinary (s .attributes) ≡ false → heldBy s caller ≡ false
+  unheld-class b = if-no _ _ b
+
+  pub unheld-other : (s .owner ≡ caller → ⊥) → heldBy s caller ≡ false
+  unheld-other h = ap (λ (t : Bool). isBinary (s .attributes) and t) (if-ne _ _ _ _ h) ∙ choose-same (isBinary (s .attributes)) false
+
+  pub unheld-nobody : caller ≡ 0 → heldBy s caller ≡ false
+  unheld-nobody h =
+      ap (λ (t : Bool). isBinary (s .attributes) and eqb (s .owner) caller and t) (if-eq _ _ _ _ h)
+      ∙ ap (λ (t : Bool). isBinary (s .attributes) and t) (choose-same (eqb (s .owner) caller) false)
+      ∙ choose-same (isBinary (s .attributes)) false
+
+  pub held-owner : isBinary (s .attributes) ≡ true → s .owner ≡ caller → (caller ≡ 0 → ⊥) → heldBy s caller ≡ true
+  held-owner b h n = both-and b (both-and (eq-eqb (s .owner) caller h) (if-ne _ _ _ _ n))
+
+-- ---- give
+
+pub gave : {s : Semaphore} {status woken : ℕ} {slot : Slot} {rule : rules.Given} → rule ≡ record { status = status; slot = slot; woken = woken } → Stands s slot → GivenIs (record { status = status; woken = woken; semaphore = s }) rule
+gave {s} e st =
+    record {
+      status = ap (λ (r : rules.Given). r .status) (sym e);
+      woken = ap (λ (r : rules.Given). r .woken) (sym e);
+      semaphore = subst (λ (r : rules.Given). Stands s (r .slot)) (sym e) st;
+    }
+
+pub given-as : {r : Given} {rule other : rules.Given} → rule ≡ other → GivenIs r other → GivenIs r rule
+given-as {r} e g = subst (λ (o : rules.Given). GivenIs r o) (sym e) g
+
+module _ (s : Slot) where
+  module _ (some : 1 ≤ length (s .queue)) (first : ℕ) (at : getD (s .queue) 0 0 ≡ first) where
+    pub pass-owned : isBinary (s .attributes) ≡ true → passStep s ≡ record { status = 0; slot = rules.counted s (s .count) first 1 (drop 1 (s .queue)); woken = first }
+    unfolding passStep
+    pass-owned b =
+        if-le _ _ _ _ some
+        ∙ (λ i. record { status = 0; slot = rules.counted s (s .count) ((if-yes (getD (s .queue) 0 0) (s .owner) b ∙ at) i) (if-yes 1 (s .nest) b i) (drop 1 (s .queue)); woken = at i })
+
+    pub pass-handed : isBinary (s .attributes) ≡ false → passStep s ≡ record { status = 0; slot = requeued s (drop 1 (s .queue)); woken = first }
+    unfolding passStep
+    pass-handed b =
+        if-le _ _ _ _ some
+        ∙ (λ i. record { status = 0; slot = rules.counted s (s .count) (if-no (getD (s .queue) 0 0) (s .owner) b i) (if-no 1 (s .nest) b i) (drop 1 (s .queue)); woken = at i })
+
+  module _ (none : length (s .queue) < 1) where
+    pub pass-full : s .count ≡ maximum (s .attributes) → passStep s ≡ record { status = 13; slot = s; woken = 0 }
+    unfolding passStep
+    pass-full h = if-not-le _ _ _ _ none ∙ if-eq _ _ _ _ h
+
+    pub pass-raised : (s .count ≡ maximum (s .attributes) → ⊥) → passStep s ≡ record { status = 0; slot = rules.counted s (s .count + 1) 0 0 (s .queue); woken = 0 }
+    unfolding passStep
+    pass-raised h = if-not-le _ _ _ _ none ∙ if-ne _ _ _ _ h
+
+  module _ (caller : ℕ) where
+    pub give-unowned : isBinary (s .attributes) ≡ false → giveStep s caller ≡ passStep s
+    unfolding giveStep passStep
+    give-unowned b = if-no _ _ (if-no _ _ b) ∙ if-no _ _ (if-no _ _ b)
+
+    pub give-refused : isBinary (s .attributes) ≡ true → heldBy s caller ≡ false → giveStep s caller ≡ record { status = 23; slot = s; woken = 0 }
+    unfolding giveStep
+    give-refused b h = if-yes _ _ (both-and b (false-isnt (ownedBy s caller) (sym (if-yes _ _ b) ∙ h)))
+
+    module _ (held : heldBy s caller ≡ true) where
+      may : (isBinary (s .attributes) and isnt (ownedBy s caller)) ≡ false
+      may =
+          let both = and-both (isBinary (s .attributes)) (ownedBy s caller) held in
+          if-yes _ _ (both .0) ∙ if-yes _ _ (both .1)
+
+      pub give-inner : 2 ≤ s .nest → giveStep s caller ≡ record { status = 0; slot = rules.counted s (s .count) (s .owner) (s .nest - 1) (s .queue); woken = 0 }
+      unfolding giveStep
+      give-inner h = if-no _ _ may ∙ if-yes _ _ (both-and (and-both (isBinary (s .attributes)) (ownedBy s caller) held .0) (le-leb 2 (s .nest) h))
+
+      pub give-outer : s .nest < 2 → giveStep s caller ≡ passStep s
+      unfolding giveStep passStep
+      give-outer h = if-no _ _ may ∙ if-no _ _ (if-yes _ _ (and-both (isBinary (s .attributes)) (ownedBy s caller) held .0) ∙ lt-leb 2 (s .nest) h)
+
+-- ---- a new semaphore
+
+abbrev pub newRecord : (generation name count attributes owner nest : ℕ) → Semaphore
+newRecord generation name count attributes owner nest =
+    record { generation = generation + 1; live = 1; name = name; attributes = attributes; count = count; owner = owner; nest = nest; waiters = 0; queue = fit 32 0 [] }
+
+module _ (generation caller name count attributes : ℕ) where
+  pub new-unowned : (isBinary attributes and eqb count 0) ≡ false → Stands (newRecord generation name count attributes 0 0) (newSemaphore generation caller name count attributes)
+  unfolding newSemaphore
+  new-unowned e =
+      record {
+        same = λ i. record { generation = generation + 1; live = 1; name = name; attributes = attributes; count = count; owner = sym (if-no caller 0 e) i; nest = sym (if-no 1 0 e) i; queue = [] };
+        padded = record { few = omega arith; filled = refl };
+      }
+
+  pub new-owned : (isBinary attributes and eqb count 0) ≡ true → Stands (newRecord generation name count attributes caller 1) (newSemaphore generation caller name count attributes)
+  unfolding newSemaphore
+  new-owned e =
+      record {
+        same = λ i. record { generation = generation + 1; live = 1; name = name; attributes = attributes; count = count; owner = sym (if-yes caller 0 e) i; nest = sym (if-yes 1 0 e) i; queue = [] };
+        padded = record { few = omega arith; filled = refl };
+      }

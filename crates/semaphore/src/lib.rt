@@ -1,0 +1,362 @@
+// One slot of the tables, with its queue, as a record that is passed and returned by value.
+use rules::Wait;
+ghost use mathlib.Core.Path.{_≡_};
+ghost use Prim.Native.Nat.{ℕ, _≤_, _<_};
+ghost use lib.ListN.{length, take, drop};
+ghost use Rattle.laws.specs.Choose.{_and_};
+ghost use Rattle.laws.specs.Rows.{fit};
+ghost use Rattle.rules.specs.Machine.{freeSlot};
+ghost use Rattle.rules.specs.Semaphore.{insertAt, ownedBy, polls, takeStep, giveStep, flushStep};
+ghost use Rattle.rules.specs.Calls.{newSemaphore};
+ghost use Rattle.rules.specs.Numbers.{isBinary, maximum};
+ghost use Rattle.semaphore.specs.Record.{slotFrom, counting, queueing, freeRecord, Padded, TasksOnly, Stands, TakenIs, GivenIs, FlushedIs, passStep, keep, KeptIs, slotKeeping};
+
+pub struct Semaphore {
+    pub generation: u32,
+    // 1 live, 0 free
+    pub live: u32,
+    pub name: u32,
+    pub attributes: u32,
+    pub count: u32,
+    pub owner: u32,
+    pub nest: u32,
+    // how many tasks wait; the rest of the queue is 0
+    pub waiters: u32,
+    pub queue: [u32; 32],
+}
+
+// What a take hands back: the status (0, 13 or 100) and the record after it.
+pub struct Taken {
+    pub status: u32,
+    pub semaphore: Semaphore,
+}
+
+// What a give hands back: the status (0, 13 or 23), the task that is woken or 0, and the record after it.
+pub struct Given {
+    pub status: u32,
+    pub woken: u32,
+    pub semaphore: Semaphore,
+}
+
+// What a flush hands back: the status, always 0, and the record after it; all of the queue is woken.
+pub struct Flushed {
+    pub status: u32,
+    pub semaphore: Semaphore,
+}
+
+// What is kept of a queue: how many wait in it, and the tasks, then 0.
+pub struct Kept {
+    pub waiters: u32,
+    pub tasks: [u32; 32],
+}
+
+fn polls(wait: Wait) -> bool
+    ensures { λ r. ⌜ r ≡ polls wait ⌝ }
+{
+    match wait {
+        Wait::Poll => true,
+        Wait::Forever => false,
+        Wait::Ticks(_) => false,
+    }
+}
+
+// What a release does not go beyond.
+fn maximum(attributes: u32) -> u32
+    ensures { λ r. ⌜ r ≡ maximum attributes ⌝ }
+{
+    if rules::is_binary(attributes) {
+        return 1;
+    }
+    if attributes == 32 {
+        return 1;
+    }
+    if attributes == 36 {
+        return 1;
+    }
+    4294967295
+}
+
+// The queue with task q at `place`, and those behind it one place further.
+fn inserted(queue: [u32; 32], place: usize, q: u32) -> [u32; 32]
+    requires { ⌜ place < 32 ⌝ }
+    ensures { λ r. ⌜ r ≡ fit 32 0 (insertAt place q queue) ⌝ }
+{
+    let mut out = queue;
+    out[place] = q;
+    let mut k = place + 1;
+    while k < 32 {
+        out[k] = queue[k - 1];
+        k += 1;
+    }
+    out
+}
+
+// The queue without its first.
+fn advanced(queue: [u32; 32]) -> [u32; 32]
+    ensures { λ r. ⌜ r ≡ fit 32 0 (drop 1 queue) ⌝ }
+{
+    let mut out = [0u32; 32];
+    let mut k = 0;
+    while k < 31 {
+        out[k] = queue[k + 1];
+        k += 1;
+    }
+    out
+}
+
+// The waiters of a queue whose wait has not ended, in the same order.
+fn filtered(queue: [u32; 32], waiters: u32, expired: [bool; 32]) -> Kept
+    requires { ⌜ (waiters ≤ 32) × TasksOnly waiters queue ⌝ }
+    ensures { λ r. ⌜ KeptIs r (keep expired (take waiters queue)) ⌝ }
+{
+    let mut out = [0u32; 32];
+    let mut n = 0;
+    let mut k = 0;
+    while k < waiters as usize {
+        let q = queue[k];
+        let i = q as usize - 1;
+        let gone = expired[i];
+        if gone {
+            k += 1;
+            continue;
+        }
+        out[n] = q;
+        n += 1;
+        k += 1;
+    }
+    Kept {
+        waiters: n as u32,
+        tasks: out,
+    }
+}
+
+// A slot that holds no semaphore.
+pub fn free(generation: u32) -> Semaphore
+    ensures { λ r. ⌜ (r ≡ freeRecord generation) × Stands r (freeSlot generation) ⌝ }
+{
+    Semaphore {
+        generation: generation,
+        live: 0,
+        name: 0,
+        attributes: 0,
+        count: 0,
+        owner: 0,
+        nest: 0,
+        waiters: 0,
+        queue: [0; 32],
+    }
+}
+
+// A new semaphore in a slot of that generation.
+pub fn created(generation: u32, caller: u32, name: u32, count: u32, attributes: u32) -> Semaphore
+    requires { ⌜ generation < 65535 ⌝ }
+    ensures { λ r. ⌜ Stands r (newSemaphore generation caller name count attributes) ⌝ }
+{
+    let made = Semaphore {
+        generation: generation + 1,
+        live: 1,
+        name: name,
+        attributes: attributes,
+        count: count,
+        owner: 0,
+        nest: 0,
+        waiters: 0,
+        queue: [0; 32],
+    };
+    if !rules::is_binary(attributes) {
+        return made;
+    }
+    if count != 0 {
+        return made;
+    }
+    made.counted(count, caller, 1)
+}
+
+impl Semaphore {
+    // The same semaphore with another count, owner and nest.
+    fn counted(self, count: u32, owner: u32, nest: u32) -> Semaphore
+        ensures { λ r. ⌜ r ≡ counting self count owner nest ⌝ }
+    {
+        let queue = self.queue;
+        Semaphore {
+            generation: self.generation,
+            live: self.live,
+            name: self.name,
+            attributes: self.attributes,
+            count: count,
+            owner: owner,
+            nest: nest,
+            waiters: self.waiters,
+            queue: queue,
+        }
+    }
+
+    // The same semaphore with another queue.
+    fn queued(self, waiters: u32, queue: [u32; 32]) -> Semaphore
+        ensures { λ r. ⌜ r ≡ queueing self waiters queue ⌝ }
+    {
+        Semaphore {
+            generation: self.generation,
+            live: self.live,
+            name: self.name,
+            attributes: self.attributes,
+            count: self.count,
+            owner: self.owner,
+            nest: self.nest,
+            waiters: waiters,
+            queue: queue,
+        }
+    }
+
+    // Whether a binary semaphore is the caller's; caller 0 owns nothing.
+    fn is_held_by(self, caller: u32) -> bool
+        ensures { λ r. ⌜ r ≡ (isBinary (self .attributes) and ownedBy (slotFrom self) caller) ⌝ }
+    {
+        if !rules::is_binary(self.attributes) {
+            return false;
+        }
+        if self.owner != caller {
+            return false;
+        }
+        if caller == 0 {
+            return false;
+        }
+        true
+    }
+
+    // One semaphore's step of an obtain; a caller that waits joins the queue at `place`.
+    pub fn take(self, caller: u32, place: usize, wait: Wait) -> Taken
+        requires { ⌜ Padded self × (self .waiters < 32) × (place ≤ self .waiters) ⌝ }
+        ensures { λ r. ⌜ TakenIs r (takeStep (slotFrom self) caller place wait) ⌝ }
+    {
+        if self.count >= 1 {
+            if rules::is_binary(self.attributes) {
+                let owned = self.counted(self.count - 1, caller, 1);
+                return Taken {
+                    status: 0,
+                    semaphore: owned,
+                };
+            }
+            let passed = self.counted(self.count - 1, self.owner, self.nest);
+            return Taken {
+                status: 0,
+                semaphore: passed,
+            };
+        }
+        if self.is_held_by(caller) {
+            if self.nest == 4294967295 {
+                return Taken {
+                    status: 13,
+                    semaphore: self,
+                };
+            }
+            let nested = self.counted(self.count, self.owner, self.nest + 1);
+            return Taken {
+                status: 0,
+                semaphore: nested,
+            };
+        }
+        if polls(wait) {
+            return Taken {
+                status: 13,
+                semaphore: self,
+            };
+        }
+        let queue = self.queue;
+        let longer = inserted(queue, place, caller);
+        let joined = self.queued(self.waiters + 1, longer);
+        Taken {
+            status: 100,
+            semaphore: joined,
+        }
+    }
+
+    // What a release does to a semaphore that the caller may give and does not hold twice.
+    fn passed_on(self) -> Given
+        requires { ⌜ Padded self × (self .count ≤ maximum (self .attributes)) ⌝ }
+        ensures { λ r. ⌜ GivenIs r (passStep (slotFrom self)) ⌝ }
+    {
+        if self.waiters >= 1 {
+            let queue = self.queue;
+            let first = queue[0];
+            let rest = advanced(queue);
+            let shorter = self.queued(self.waiters - 1, rest);
+            if rules::is_binary(self.attributes) {
+                let handed = shorter.counted(self.count, first, 1);
+                return Given {
+                    status: 0,
+                    woken: first,
+                    semaphore: handed,
+                };
+            }
+            return Given {
+                status: 0,
+                woken: first,
+                semaphore: shorter,
+            };
+        }
+        let most = maximum(self.attributes);
+        if self.count == most {
+            return Given {
+                status: 13,
+                woken: 0,
+                semaphore: self,
+            };
+        }
+        let raised = self.counted(self.count + 1, 0, 0);
+        Given {
+            status: 0,
+            woken: 0,
+            semaphore: raised,
+        }
+    }
+
+    // One semaphore's step of a release.
+    pub fn give(self, caller: u32) -> Given
+        requires { ⌜ Padded self × (self .count ≤ maximum (self .attributes)) ⌝ }
+        ensures { λ r. ⌜ GivenIs r (giveStep (slotFrom self) caller) ⌝ }
+    {
+        if !rules::is_binary(self.attributes) {
+            return self.passed_on();
+        }
+        if !self.is_held_by(caller) {
+            return Given {
+                status: 23,
+                woken: 0,
+                semaphore: self,
+            };
+        }
+        if self.nest >= 2 {
+            let inner = self.counted(self.count, self.owner, self.nest - 1);
+            return Given {
+                status: 0,
+                woken: 0,
+                semaphore: inner,
+            };
+        }
+        self.passed_on()
+    }
+
+    // One semaphore's step of a flush.
+    pub fn flush(self) -> Flushed
+        requires { ⌜ Padded self ⌝ }
+        ensures { λ r. ⌜ FlushedIs r (flushStep (slotFrom self)) ⌝ }
+    {
+        let emptied = self.queued(0, [0; 32]);
+        Flushed {
+            status: 0,
+            semaphore: emptied,
+        }
+    }
+
+    // The same semaphore, its queue without the tasks whose wait has ended.
+    pub fn without(self, expired: [bool; 32]) -> Semaphore
+        requires { ⌜ Padded self × TasksOnly (self .waiters) (self .queue) ⌝ }
+        ensures { λ r. ⌜ Stands r (slotKeeping (slotFrom self) expired) ⌝ }
+    {
+        let queue = self.queue;
+        let rest = filtered(queue, self.waiters, expired);
+        let tasks = rest.tasks;
+        self.queued(rest.waiters, tasks)
+    }
+}

@@ -1,0 +1,128 @@
+-- What the loads, the stores and the tests of the tables come to, on plain lists.
+use mathlib.Core.Path.{_≡_, ap, sym, _∙_}
+use mathlib.Core.Bool.{Bool, true, false}
+use mathlib.Core.List.{List, [], _∷_}
+use Prim.Native.Nat.{ℕ, _+_, _*_, _≤_, _<_}
+use native.Mathlib.Nat.{not-suc-le-zero}
+use native.Mathlib.Decide.{ℕ-discrete}
+use native.Mathlib.Omega.{arith}
+use lib.Dec.{leb}
+use lib.ListN.{length, getD, set}
+use lib.Seq.{sets, ext-getD, getD-set-same, getD-set-other}
+use borrow.Author.Tests.{le-leb, lt-leb, eq-eqb, ne-eqb}
+use Rattle.laws.specs.Choose.{_and_, if-yes, if-no}
+use Rattle.laws.specs.All.{all}
+use Rattle.laws.specs.Rows.{tabulate}
+use Rattle.laws.specs.FitLaws.{length-tabulate, getD-tabulate, sets-join}
+use Rattle.words.specs.Words.{bytesOf, wordAt, blank}
+use Rattle.rules.specs.declared.Task.{Task}
+use Rattle.semaphore.specs.declared.Semaphore.{Semaphore}
+use Rattle.tables.specs.Layout.{tablesLength, taskPlace, slotPlace, recordRow, taskAt, recordAt, isQueueLaid, isLaid}
+
+-- ---- a queue, loaded place by place
+
+-- the first k places hold the values
+abbrev pub Loaded : (ℕ → ℕ) → List ℕ → ℕ → Type 0
+Loaded f queue k = (j : ℕ) → j < k → getD queue j 0 ≡ f j
+
+pub loaded-none : (f : ℕ → ℕ) (queue : List ℕ) → Loaded f queue 0
+loaded-none f queue j h = absurd (not-suc-le-zero h)
+
+pub loaded-more : (f : ℕ → ℕ) (queue : List ℕ) (k w : ℕ) → k < length queue → w ≡ f k
+    → Loaded f queue k → Loaded f (set queue k w) (k + 1)
+loaded-more f queue k w h e l j b =
+    elim (ℕ-discrete j k) [
+      | yes s ↦ ap (λ (n : ℕ). getD (set queue k w) n 0) s ∙ getD-set-same queue k w 0 h ∙ e ∙ ap f (sym s)
+      | no d ↦ getD-set-other queue k j w 0 d ∙ l j (omega arith)
+    ]
+
+pub loaded-all : (n : ℕ) (f : ℕ → ℕ) (queue : List ℕ) → length queue ≡ n → Loaded f queue n → queue ≡ tabulate n f
+loaded-all n f queue e l =
+    ext-getD 0 queue (tabulate n f) (e ∙ sym (length-tabulate n f))
+    (λ i h. l i (omega arith) ∙ sym (getD-tabulate n f i 0 (omega arith)))
+
+-- ---- a slot, stored as its eight words and then its queue
+
+-- the words of a record before its queue
+abbrev pub headRow : Semaphore → List ℕ
+headRow s = s .generation ∷ s .live ∷ s .name ∷ s .attributes ∷ s .count ∷ s .owner ∷ s .nest ∷ s .waiters ∷ []
+
+pub slot-stored : (m m₁ m₂ : List ℕ) (at : ℕ) (s : Semaphore) → m₁ ≡ sets m (4 * at) (bytesOf (headRow s))
+    → m₂ ≡ sets m₁ (4 * (at + 8)) (bytesOf (s .queue)) → m₂ ≡ sets m (4 * at) (bytesOf (recordRow s))
+unfolding bytesOf
+slot-stored m m₁ m₂ at s e₁ e₂ =
+    let p : 4 * (at + 8) ≡ 4 * at + 32 = omega arith in
+    e₂
+    ∙ ap (λ (l : List ℕ). sets l (4 * (at + 8)) (bytesOf (s .queue))) e₁
+    ∙ ap (λ (n : ℕ). sets (sets m (4 * at) (bytesOf (headRow s))) n (bytesOf (s .queue))) p
+    ∙ sets-join m (4 * at) (bytesOf (headRow s)) (bytesOf (s .queue))
+
+-- ---- a record, loaded word by word
+
+pub task-loaded : (bs : List ℕ) (i a b c d : ℕ)
+    → a ≡ wordAt bs (taskPlace i) → b ≡ wordAt bs (taskPlace i + 1) → c ≡ wordAt bs (taskPlace i + 2) → d ≡ wordAt bs (taskPlace i + 3)
+    → _≡_ {A = Task} (record { priority = a; answer = b; awaited = c; ticks = d }) (taskAt bs i)
+unfolding taskAt
+task-loaded bs i a b c d ea eb ec ed = cc
+
+pub slot-loaded : (bs : List ℕ) (i a b c d e f g h : ℕ) (queue : List ℕ)
+    → a ≡ wordAt bs (slotPlace i) → b ≡ wordAt bs (slotPlace i + 1) → c ≡ wordAt bs (slotPlace i + 2) → d ≡ wordAt bs (slotPlace i + 3)
+    → e ≡ wordAt bs (slotPlace i + 4) → f ≡ wordAt bs (slotPlace i + 5) → g ≡ wordAt bs (slotPlace i + 6) → h ≡ wordAt bs (slotPlace i + 7)
+    → queue ≡ tabulate 32 (λ k. wordAt bs (slotPlace i + 8 + k))
+    → _≡_ {A = Semaphore}
+    (record { generation = a; live = b; name = c; attributes = d; count = e; owner = f; nest = g; waiters = h; queue = queue })
+    (recordAt bs i)
+unfolding recordAt
+slot-loaded bs i a b c d e f g h queue ea eb ec ed ee ef eg eh eq = cc
+
+-- ---- tests in a row
+
+and-then : {a b r : Bool} → a ≡ true → r ≡ b → r ≡ (a and b)
+and-then {a} {b} {r} e f = f ∙ sym (if-yes b false e)
+
+and-stop : {a : Bool} (b : Bool) → a ≡ false → false ≡ (a and b)
+and-stop b e = sym (if-no b false e)
+
+-- a slot's queue, by its number of waiters
+module _ (bs : List ℕ) (i w : ℕ) (e : w ≡ wordAt bs (slotPlace i + 7)) where
+  queue-tested : (leb w 32 and blank bs (slotPlace i + 8 + w) (slotPlace i + 40)) ≡ isQueueLaid bs i
+  unfolding isQueueLaid
+  queue-tested = ap (λ (w : ℕ). leb w 32 and blank bs (slotPlace i + 8 + w) (slotPlace i + 40)) e
+
+  pub queue-long : 32 < w → false ≡ isQueueLaid bs i
+  queue-long h = and-stop _ (lt-leb w 32 h) ∙ queue-tested
+
+  pub queue-within : (r : Bool) → w ≤ 32 → r ≡ blank bs (slotPlace i + 8 + w) (slotPlace i + 40) → r ≡ isQueueLaid bs i
+  queue-within r h f = and-then (le-leb w 32 h) f ∙ queue-tested
+
+-- the tables, by their length
+pub wrong-length : (bs : List ℕ) → (length bs ≡ tablesLength → ⊥) → false ≡ isLaid bs
+unfolding isLaid
+wrong-length bs h = and-stop _ (ne-eqb (length bs) tablesLength h)
+
+-- the tables, by their counts: each test behind those that held
+module _ (bs : List ℕ) (n s : ℕ) (en : n ≡ wordAt bs 0) (es : s ≡ wordAt bs 1) (sized : length bs ≡ tablesLength) where
+  tables-tested : (r : Bool)
+      → r ≡ (leb n 32 and leb s 64 and blank bs (taskPlace n) 130 and all s (isQueueLaid bs) and blank bs (slotPlace s) 2690)
+      → r ≡ isLaid bs
+  unfolding isLaid
+  tables-tested r e = and-then (eq-eqb (length bs) tablesLength sized) (rw (en, es) at e)
+
+  pub tasks-beyond : 32 < n → false ≡ isLaid bs
+  tasks-beyond h = tables-tested false (and-stop _ (lt-leb n 32 h))
+
+  module _ (hn : n ≤ 32) where
+    pub slots-beyond : 64 < s → false ≡ isLaid bs
+    slots-beyond h = tables-tested false (and-then (le-leb n 32 hn) (and-stop _ (lt-leb s 64 h)))
+
+    module _ (hs : s ≤ 64) where
+      pub tasks-not-blank : blank bs (taskPlace n) 130 ≡ false → false ≡ isLaid bs
+      tasks-not-blank h = tables-tested false (and-then (le-leb n 32 hn) (and-then (le-leb s 64 hs) (and-stop _ h)))
+
+      pub queues-not-laid : blank bs (taskPlace n) 130 ≡ true → all s (isQueueLaid bs) ≡ false → false ≡ isLaid bs
+      queues-not-laid b h = tables-tested false (and-then (le-leb n 32 hn) (and-then (le-leb s 64 hs) (and-then b (and-stop _ h))))
+
+      pub slots-tested : (r : Bool) → blank bs (taskPlace n) 130 ≡ true → all s (isQueueLaid bs) ≡ true
+          → r ≡ blank bs (slotPlace s) 2690 → r ≡ isLaid bs
+      slots-tested r b q h =
+          tables-tested r (and-then (le-leb n 32 hn) (and-then (le-leb s 64 hs) (and-then b (and-then q h))))

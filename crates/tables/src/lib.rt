@@ -1,0 +1,162 @@
+// Load and store of the tables in lent bytes. Tasks and slots are counted from 0 here.
+use rules::Task;
+use semaphore::Semaphore;
+ghost use mathlib.Core.Path.{_≡_};
+ghost use Prim.Native.Nat.{_+_, _*_, _≤_, _<_};
+ghost use mathlib.Core.List.{[], _∷_};
+ghost use lib.ListN.{length};
+ghost use lib.Seq.{sets};
+ghost use Rattle.words.specs.Words.{bytesOf, wordAt};
+ghost use Rattle.laws.specs.Rows.{tabulate};
+ghost use Rattle.tables.specs.Layout.{tablesLength, taskPlace, slotPlace, taskRow, recordRow, taskAt, recordAt, isQueueLaid, isLaid};
+ghost use Rattle.laws.specs.All.{all};
+
+pub const TABLES_LENGTH: usize = 10760;
+
+// N, the number of tasks.
+pub fn task_count(m: &[u8]) -> u32
+    requires { ⌜ length (now m) ≡ tablesLength ⌝ }
+    ensures { λ r. ⌜ r ≡ wordAt (now (m .entry)) 0 ⌝ }
+{
+    words::word(m, 0)
+}
+
+// S, the number of slots.
+pub fn slot_count(m: &[u8]) -> u32
+    requires { ⌜ length (now m) ≡ tablesLength ⌝ }
+    ensures { λ r. ⌜ r ≡ wordAt (now (m .entry)) 1 ⌝ }
+{
+    words::word(m, 1)
+}
+
+pub fn store_counts(m: &mut [u8], tasks: u32, slots: u32)
+    requires { ⌜ length (now m) ≡ tablesLength ⌝ }
+    ensures { λ _. ⌜ now (m .exit) ≡ sets (now (m .entry)) 0 (bytesOf (tasks ∷ slots ∷ [])) ⌝ }
+{
+    let row = [tasks, slots];
+    words::set_words(m, 0, &row);
+}
+
+pub fn load_task(m: &[u8], i: usize) -> Task
+    requires { ⌜ (length (now m) ≡ tablesLength) × (i < 32) ⌝ }
+    ensures { λ r. ⌜ r ≡ taskAt (now (m .entry)) i ⌝ }
+{
+    let at = 2 + 4 * i;
+    Task {
+        priority: words::word(m, at),
+        answer: words::word(m, at + 1),
+        awaited: words::word(m, at + 2),
+        ticks: words::word(m, at + 3),
+    }
+}
+
+pub fn store_task(m: &mut [u8], i: usize, v: Task)
+    requires { ⌜ (length (now m) ≡ tablesLength) × (i < 32) ⌝ }
+    ensures { λ _. ⌜ now (m .exit) ≡ sets (now (m .entry)) (4 * taskPlace i) (bytesOf (taskRow v)) ⌝ }
+{
+    let row = [v.priority, v.answer, v.awaited, v.ticks];
+    words::set_words(m, 2 + 4 * i, &row);
+}
+
+fn load_queue(m: &[u8], at: usize) -> [u32; 32]
+    requires { ⌜ 4 * at + 128 ≤ length (now m) ⌝ }
+    ensures { λ r. ⌜ r ≡ tabulate 32 (λ k. wordAt (now (m .entry)) (at + k)) ⌝ }
+{
+    let mut queue = [0u32; 32];
+    let mut k = 0;
+    while k < 32 {
+        queue[k] = words::word(m, at + k);
+        k += 1;
+    }
+    queue
+}
+
+pub fn load_slot(m: &[u8], i: usize) -> Semaphore
+    requires { ⌜ (length (now m) ≡ tablesLength) × (i < 64) ⌝ }
+    ensures { λ r. ⌜ r ≡ recordAt (now (m .entry)) i ⌝ }
+{
+    let at = 130 + 40 * i;
+    let queue = load_queue(m, at + 8);
+    Semaphore {
+        generation: words::word(m, at),
+        live: words::word(m, at + 1),
+        name: words::word(m, at + 2),
+        attributes: words::word(m, at + 3),
+        count: words::word(m, at + 4),
+        owner: words::word(m, at + 5),
+        nest: words::word(m, at + 6),
+        waiters: words::word(m, at + 7),
+        queue: queue,
+    }
+}
+
+pub fn store_slot(m: &mut [u8], i: usize, s: Semaphore)
+    requires { ⌜ (length (now m) ≡ tablesLength) × (i < 64) ⌝ }
+    ensures { λ _. ⌜ now (m .exit) ≡ sets (now (m .entry)) (4 * slotPlace i) (bytesOf (recordRow s)) ⌝ }
+{
+    let at = 130 + 40 * i;
+    let row = [
+        s.generation,
+        s.live,
+        s.name,
+        s.attributes,
+        s.count,
+        s.owner,
+        s.nest,
+        s.waiters,
+    ];
+    words::set_words(m, at, &row);
+    let queue = s.queue;
+    words::set_words(m, at + 8, &queue);
+}
+
+// Whether a slot's queue is within its 32 places, and 0 behind its waiters.
+fn is_queue_laid(m: &[u8], i: usize) -> bool
+    requires { ⌜ (length (now m) ≡ tablesLength) × (i < 64) ⌝ }
+    ensures { λ r. ⌜ r ≡ isQueueLaid (now (m .entry)) i ⌝ }
+{
+    let at = 130 + 40 * i;
+    let waiters = words::word(m, at + 7) as usize;
+    if 32 < waiters {
+        return false;
+    }
+    words::is_blank(m, at + 8 + waiters, at + 40)
+}
+
+fn are_queues_laid(m: &[u8], slots: usize) -> bool
+    requires { ⌜ (length (now m) ≡ tablesLength) × (slots ≤ 64) ⌝ }
+    ensures { λ r. ⌜ r ≡ all slots (isQueueLaid (now (m .entry))) ⌝ }
+{
+    let mut i = 0;
+    while i < slots {
+        if !is_queue_laid(m, i) {
+            return false;
+        }
+        i += 1;
+    }
+    true
+}
+
+// Whether lent bytes, of any length, are the layout of some tables.
+pub fn is_layout(m: &[u8]) -> bool
+    ensures { λ r. ⌜ r ≡ isLaid (now (m .entry)) ⌝ }
+{
+    if m.len() != 10760 {
+        return false;
+    }
+    let tasks = words::word(m, 0) as usize;
+    let slots = words::word(m, 1) as usize;
+    if 32 < tasks {
+        return false;
+    }
+    if 64 < slots {
+        return false;
+    }
+    if !words::is_blank(m, 2 + 4 * tasks, 130) {
+        return false;
+    }
+    if !are_queues_laid(m, slots) {
+        return false;
+    }
+    words::is_blank(m, 130 + 40 * slots, 2690)
+}
