@@ -1,0 +1,134 @@
+-- What each step's stores make of a layout. No bound on words is assumed: where the layout is in bytes, they are below 2 ^ 32.
+use mathlib.Core.Path.{_≡_, refl, sym, ap, ap₂, _∙_}
+use mathlib.Core.List.{List, [], _∷_, _++_, map}
+use Prim.Native.Nat.{ℕ, pred, _+_, _-_, _*_, _≤_, _<_}
+use native.Mathlib.Numerals.{add-one, sub-one}
+use native.Mathlib.Omega.{arith}
+use lib.ListN.{length, getD, take, length-set, length-map}
+use lib.Seq.{sets, take-suc}
+use Rattle.laws.specs.FitLaws.{getD-map}
+use Rattle.words.specs.Words.{bytesOf, wordAt}
+use Rattle.words.proofs.Laws.{Bytes, words-below, wordAt-bytesOf}
+use Rattle.rules.specs.declared.Task.{Task}
+use Rattle.rules.specs.Machine.{Slot, Tables, unstarted, noTask, taskOf, putTask, putSlot}
+use Rattle.rules.specs.Calls.{readied, wake, wakeAll, newTask, started}
+use Rattle.semaphore.specs.declared.Semaphore.{Semaphore}
+use Rattle.semaphore.specs.Record.{Stands}
+use Rattle.tables.specs.Layout.{taskPlace, slotPlace, taskRow, recordRow, layout, laid, taskAt}
+use Rattle.tables.proofs.LawsRead.{layout-task-word}
+use Rattle.tables.proofs.LawsStore.{store-task-laid, store-slot-laid, starting, start-counts, start-task, start-all}
+
+-- ---- a task that is read from bytes
+
+module _ (t : Tables) (b : Bytes (laid t)) where
+  pub word-laid : (k : ℕ) → wordAt (laid t) k ≡ getD (layout t) k 0
+  unfolding laid
+  word-laid k = wordAt-bytesOf (layout t) (words-below (layout t) b) k
+
+  pub task-laid : (i : ℕ) → i < 32 → taskAt (laid t) i ≡ getD (t .tasks) i noTask
+  unfolding taskAt
+  task-laid i l =
+      let w : (k j : ℕ) → k ≡ taskPlace i + j → j < 4 → wordAt (laid t) k ≡ getD (taskRow (getD (t .tasks) i noTask)) j 0 = λ k j p h. word-laid k ∙ layout-task-word t i k j p l h in
+      λ k. record { priority = w (taskPlace i) 0 (omega arith) (omega arith) k; answer = w (taskPlace i + 1) 1 refl (omega arith) k; awaited = w (taskPlace i + 2) 2 refl (omega arith) k; ticks = w (taskPlace i + 3) 3 refl (omega arith) k }
+
+-- task q is the one at q - 1
+pub task-numbered : (m : List ℕ) (t : Tables) (q : ℕ) → Bytes m → m ≡ laid t → 1 ≤ q → q ≤ 32 → taskAt m (q - 1) ≡ taskOf t q
+task-numbered m t q b e l h =
+    let p : q - 1 ≡ pred q = sub-one q in
+    rw (e, p) (task-laid t (rw e at b) (pred q) (omega arith))
+
+-- ---- a task or a slot that is stored
+
+pub task-put : (m m′ : List ℕ) (q : ℕ) (v : Task) → 1 ≤ q → q ≤ 32 → m′ ≡ sets m (4 * taskPlace (q - 1)) (bytesOf (taskRow v))
+    → (t : Tables) → m ≡ laid t → q ≤ length (t .tasks) → m′ ≡ laid (putTask t q v)
+task-put m m′ q v l h w t e n =
+    w
+    ∙ ap₂ (λ (x : List ℕ) (i : ℕ). sets x (4 * taskPlace i) (bytesOf (taskRow v))) e (sub-one q)
+    ∙ store-task-laid t (pred q) v (omega arith) (omega arith)
+
+pub slot-put : (m m′ : List ℕ) (n : ℕ) (s : Semaphore) → 1 ≤ n → n ≤ 64 → m′ ≡ sets m (4 * slotPlace (n - 1)) (bytesOf (recordRow s))
+    → (t : Tables) (slot : Slot) → m ≡ laid t → Stands s slot → n ≤ length (t .slots) → m′ ≡ laid (putSlot t n slot)
+slot-put m m′ n s l h w t slot e r k =
+    w
+    ∙ ap₂ (λ (x : List ℕ) (i : ℕ). sets x (4 * slotPlace i) (bytesOf (recordRow s))) e (sub-one n)
+    ∙ store-slot-laid t (pred n) s (omega arith) (omega arith) (r .padded)
+    ∙ ap (λ (x : Slot). laid (putSlot t n x)) (r .same)
+
+-- a task that is read, readied and put
+pub task-woken : (m m′ : List ℕ) (q answer : ℕ) (v ready : Task) → Bytes m → 1 ≤ q → q ≤ 32 → v ≡ taskAt m (q - 1) → ready ≡ readied v answer
+    → ((t : Tables) → m ≡ laid t → q ≤ length (t .tasks) → m′ ≡ laid (putTask t q ready))
+    → (t : Tables) → m ≡ laid t → q ≤ length (t .tasks) → m′ ≡ laid (wake t q answer)
+task-woken m m′ q answer v ready b l h u r s t e n =
+    s t e n
+    ∙ ap (λ (x : Task). laid (putTask t q x)) (r ∙ ap (λ (x : Task). readied x answer) (u ∙ task-numbered m t q b e l h))
+
+-- ---- the waiters of a queue are woken
+
+pub wake-all-tasks : (t : Tables) (qs : List ℕ) (answer : ℕ) → length (wakeAll t qs answer .tasks) ≡ length (t .tasks)
+unfolding wakeAll
+wake-all-tasks t [] answer = refl
+wake-all-tasks t (q ∷ qs) answer =
+    wake-all-tasks (wake t q answer) qs answer ∙ length-set (t .tasks) (pred q) (readied (taskOf t q) answer)
+
+pub wake-all-slots : (t : Tables) (qs : List ℕ) (answer : ℕ) → wakeAll t qs answer .slots ≡ t .slots
+unfolding wakeAll
+wake-all-slots t [] answer = refl
+wake-all-slots t (q ∷ qs) answer = wake-all-slots (wake t q answer) qs answer
+
+wake-all-last : (t : Tables) (qs : List ℕ) (q answer : ℕ) → wakeAll t (qs ++ q ∷ []) answer ≡ wake (wakeAll t qs answer) q answer
+unfolding wakeAll
+wake-all-last t [] q answer = refl
+wake-all-last t (p ∷ qs) q answer = wake-all-last (wake t p answer) qs q answer
+
+-- one more of a queue
+pub wake-next : (t : Tables) (queue : List ℕ) (k answer : ℕ) → k < length queue
+    → wake (wakeAll t (take k queue) answer) (getD queue k 0) answer ≡ wakeAll t (take (k + 1) queue) answer
+wake-next t queue k answer h =
+    sym (wake-all-last t (take k queue) (getD queue k 0) answer)
+    ∙ ap (λ (qs : List ℕ). wakeAll t qs answer) (rw (add-one, take-suc queue k 0) refl)
+
+-- with the first k of the waiters woken
+abbrev pub Woken : List ℕ → List ℕ → ℕ → ℕ → List ℕ → ℕ → Type 0
+Woken m₀ queue waiters answer m k =
+    (t : Tables) → m₀ ≡ laid t → ((j : ℕ) → j < waiters → getD queue j 0 ≤ length (t .tasks)) → m ≡ laid (wakeAll t (take k queue) answer)
+
+module _ (m₀ queue : List ℕ) (waiters answer : ℕ) where
+  pub woken-none : Woken m₀ queue waiters answer m₀ 0
+  unfolding wakeAll
+  woken-none t e h = e
+
+  pub woken-more : (m m′ : List ℕ) (k : ℕ) → k < waiters → waiters ≤ length queue → Woken m₀ queue waiters answer m k
+      → ((t : Tables) → m ≡ laid t → getD queue k 0 ≤ length (t .tasks) → m′ ≡ laid (wake t (getD queue k 0) answer))
+      → Woken m₀ queue waiters answer m′ (k + 1)
+  woken-more m m′ k l h w s t e n =
+      s (wakeAll t (take k queue) answer) (w t e n) (rw wake-all-tasks (n k l))
+      ∙ ap laid (wake-next t queue k answer (omega arith))
+
+-- ---- start
+
+-- with the first i tasks stored behind the counts
+abbrev pub StartedUpTo : List ℕ → ℕ → List ℕ → List ℕ → ℕ → Type 0
+StartedUpTo m₀ slots priorities m i =
+    m₀ ≡ laid (starting slots (map newTask priorities) 0) → m ≡ laid (starting slots (map newTask priorities) i)
+
+module _ (m₀ : List ℕ) (slots : ℕ) (priorities : List ℕ) where
+  pub started-more : (m m′ : List ℕ) (i : ℕ) (v : Task) → i < 32 → i < length priorities → v ≡ newTask (getD priorities i 0)
+      → m′ ≡ sets m (4 * taskPlace i) (bytesOf (taskRow v)) → StartedUpTo m₀ slots priorities m i → StartedUpTo m₀ slots priorities m′ (i + 1)
+  started-more m m′ i v l h n w s e =
+      let ts : List Task = map newTask priorities in
+      let u : v ≡ getD ts i noTask = n ∙ sym (getD-map newTask priorities i 0 noTask h) in
+      let k : i < length ts = omega (arith, length-map priorities newTask) in
+      w
+      ∙ ap (λ (x : List ℕ). sets x (4 * taskPlace i) (bytesOf (taskRow v))) (s e)
+      ∙ ap (λ (x : Task). sets (laid (starting slots ts i)) (4 * taskPlace i) (bytesOf (taskRow x))) u
+      ∙ start-task slots ts i l k
+      ∙ ap (λ (j : ℕ). laid (starting slots ts j)) (sym (add-one i))
+
+  pub started-all : (m : List ℕ) (i : ℕ) → i ≡ length priorities → StartedUpTo m₀ slots priorities m i
+      → (before : List ℕ) → m₀ ≡ sets before 0 (bytesOf (length priorities ∷ slots ∷ [])) → before ≡ laid unstarted → m ≡ laid (started slots priorities)
+  unfolding started
+  started-all m i p s before w e =
+      let ts : List Task = map newTask priorities in
+      let n : length priorities ≡ length ts = sym (length-map priorities newTask) in
+      let c : m₀ ≡ laid (starting slots ts 0) = w ∙ ap₂ (λ (x : List ℕ) (k : ℕ). sets x 0 (bytesOf (k ∷ slots ∷ []))) e n ∙ start-counts slots ts in
+      s c ∙ ap (λ (j : ℕ). laid (starting slots ts j)) (p ∙ n) ∙ ap laid (start-all slots ts)

@@ -1,0 +1,4 @@
+pub mod Laws
+pub mod Mapped
+pub mod Ticks
+pub mod TickSlots

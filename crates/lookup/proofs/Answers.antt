@@ -1,0 +1,162 @@
+-- What each test on the way of a look-up says of its answer, over the model of lent bytes.
+use mathlib.Core.Path.{_≡_, ap, ap₂, sym, _∙_}
+use mathlib.Core.Bool.{Bool, true, false}
+use mathlib.Core.List.{List, _∷_}
+use Prim.Native.Nat.{ℕ, suc, pred, _+_, _-_, _/_, _%_, _≤_, _<_}
+use native.Mathlib.Omega.{arith}
+use lib.Dec.{ltb, eqb}
+use lib.ListN.{length, getD}
+use lib.Seq.{length-take-le}
+use borrow.Author.Tests.{eq-eqb, ne-eqb, lt-ltb, le-ltb, le-leb, lt-leb}
+use Rattle.laws.specs.Choose.{choose, _and_, isnt, if-yes, if-no, if-lt, if-not-lt, choose-same, both-and, false-isnt}
+use Rattle.words.specs.Words.{wordAt}
+use Rattle.rules.specs.declared.Task.{Task}
+use Rattle.rules.specs.Numbers.{byPriority}
+use Rattle.rules.specs.Machine.{Slot, noTask, freeSlot, taskOf, slotOf, waits, urgency, names, slotNamed, mostUrgent}
+use Rattle.rules.specs.Semaphore.{ahead, placeOf}
+use Rattle.rules.specs.Calls.{callerRefusal}
+use Rattle.semaphore.specs.declared.Semaphore.{Semaphore}
+use Rattle.semaphore.specs.Record.{slotFrom}
+use Rattle.tables.specs.Layout.{modelOf, taskAt, recordAt, slotPlace}
+use Rattle.lookup.proofs.Searches.{isOpen, isNamed}
+use Rattle.lookup.proofs.Model.{length-tasks, length-slots, task-read, task-none, slot-read}
+
+and-first : {a : Bool} (b : Bool) → a ≡ false → (a and b) ≡ false
+and-first b e = if-no b false e
+
+and-second : (a : Bool) {b : Bool} → b ≡ false → (a and b) ≡ false
+and-second a {b} e = ap (λ (b : Bool). a and b) e ∙ choose-same a false
+
+-- ---- one task more
+
+module _ (best p q : ℕ) (v : Task) (vs : List Task) where
+  abbrev isBetter : Bool
+  isBetter = isnt (waits v) and ltb (v .priority) p
+
+  same-best : isBetter ≡ false → mostUrgent vs (suc q) best p ≡ mostUrgent (v ∷ vs) q best p
+  unfolding mostUrgent
+  same-best e = sym (ap₂ (mostUrgent vs (suc q)) (if-no q best e) (if-no (v .priority) p e))
+
+  pub better-waits : v .answer ≡ 100 → mostUrgent vs (suc q) best p ≡ mostUrgent (v ∷ vs) q best p
+  better-waits h = same-best (and-first _ (if-yes false true (eq-eqb (v .answer) 100 h)))
+
+  pub better-later : p ≤ v .priority → mostUrgent vs (suc q) best p ≡ mostUrgent (v ∷ vs) q best p
+  better-later h = same-best (and-second (isnt (waits v)) (le-ltb (v .priority) p h))
+
+  pub better-now : (v .answer ≡ 100 → ⊥) → v .priority < p
+      → mostUrgent vs (suc q) q (v .priority) ≡ mostUrgent (v ∷ vs) q best p
+  unfolding mostUrgent
+  better-now h l =
+      let e : isBetter ≡ true = both-and (false-isnt (waits v) (ne-eqb (v .answer) 100 h)) (lt-ltb (v .priority) p l) in
+      sym (ap₂ (mostUrgent vs (suc q)) (if-yes q best e) (if-yes (v .priority) p e))
+
+-- ---- a task by its number
+
+module _ (bs : List ℕ) where
+  task-of : (q i : ℕ) (v : Task) → i ≡ pred q → i < wordAt bs 0 → v ≡ taskAt bs i → taskOf (modelOf bs) q ≡ v
+  task-of q i v p h e = ap (λ (k : ℕ). getD (modelOf bs .tasks) k noTask) (sym p) ∙ task-read bs i h ∙ sym e
+
+  pub urgency-of : (q i : ℕ) (v : Task) → i ≡ pred q → i < wordAt bs 0 → v ≡ taskAt bs i → v .priority ≡ urgency (modelOf bs) q
+  urgency-of q i v p h e = sym (ap (λ (v : Task). v .priority) (task-of q i v p h e))
+
+  pub urgency-none : (q i : ℕ) → i ≡ pred q → wordAt bs 0 ≤ i → 0 ≡ urgency (modelOf bs) q
+  urgency-none q i p h =
+      sym (ap (λ (k : ℕ). getD (modelOf bs .tasks) k noTask .priority) (sym p) ∙ ap (λ (v : Task). v .priority) (task-none bs i h))
+
+  pub refused-above : (caller : ℕ) → wordAt bs 0 < caller → 4 ≡ callerRefusal (modelOf bs) caller
+  refused-above caller h = sym (if-lt (length (modelOf bs .tasks)) caller 4 _ (rw length-tasks h))
+
+  module _ (caller : ℕ) (v : Task) (low : 1 ≤ caller) (high : caller ≤ wordAt bs 0) (loaded : v ≡ taskAt bs (caller - 1)) where
+    refused-by : callerRefusal (modelOf bs) caller ≡ choose (waits v) 14 0
+    refused-by =
+        if-not-lt (length (modelOf bs .tasks)) caller 4 _ (rw length-tasks high)
+        ∙ ap (λ (v : Task). choose (waits v) 14 0) (task-of caller (caller - 1) v (omega arith) (omega arith) loaded)
+
+    pub refused-waits : v .answer ≡ 100 → 14 ≡ callerRefusal (modelOf bs) caller
+    refused-waits h = sym (refused-by ∙ if-yes 14 0 (eq-eqb (v .answer) 100 h))
+
+    pub not-refused : (v .answer ≡ 100 → ⊥) → 0 ≡ callerRefusal (modelOf bs) caller
+    not-refused h = sym (refused-by ∙ if-no 14 0 (ne-eqb (v .answer) 100 h))
+
+-- ---- a slot by its index, and the words of it that a search tests
+
+module _ (bs : List ℕ) (i : ℕ) (h : i < wordAt bs 1) where
+  pub slot-live : getD (modelOf bs .slots) i (freeSlot 0) .live ≡ wordAt bs (slotPlace i + 1)
+  unfolding recordAt
+  slot-live = ap (λ (s : Slot). s .live) (slot-read bs i h)
+
+  pub slot-generation : getD (modelOf bs .slots) i (freeSlot 0) .generation ≡ wordAt bs (slotPlace i)
+  unfolding recordAt
+  slot-generation = ap (λ (s : Slot). s .generation) (slot-read bs i h)
+
+  pub slot-name : getD (modelOf bs .slots) i (freeSlot 0) .name ≡ wordAt bs (slotPlace i + 2)
+  unfolding recordAt
+  slot-name = ap (λ (s : Slot). s .name) (slot-read bs i h)
+
+  -- what a search answers of a slot's words, it answers of the slot
+  pub open-test : (live generation : ℕ) (r : Bool) → live ≡ wordAt bs (slotPlace i + 1) → generation ≡ wordAt bs (slotPlace i)
+      → r ≡ (isnt (eqb live 1) and ltb generation 65535) → isOpen (getD (modelOf bs .slots) i (freeSlot 0)) ≡ r
+  open-test live generation r l g e =
+      ap₂ (λ (live generation : ℕ). isnt (eqb live 1) and ltb generation 65535) (slot-live ∙ sym l) (slot-generation ∙ sym g) ∙ sym e
+
+  pub named-test : (live found name : ℕ) (r : Bool) → live ≡ wordAt bs (slotPlace i + 1) → found ≡ wordAt bs (slotPlace i + 2)
+      → r ≡ (eqb live 1 and eqb found name) → isNamed name (getD (modelOf bs .slots) i (freeSlot 0)) ≡ r
+  named-test live found name r l f e =
+      ap₂ (λ (live found : ℕ). eqb live 1 and eqb found name) (slot-live ∙ sym l) (slot-name ∙ sym f) ∙ sym e
+
+-- ---- the slot that an identifier names
+
+module _ (bs : List ℕ) (id : ℕ) where
+  unnamed : names (modelOf bs) id ≡ false → 0 ≡ slotNamed (modelOf bs) id
+  unnamed e = sym (if-no (id % 65536) 0 e)
+
+  pub unnamed-zero : id % 65536 ≡ 0 → 0 ≡ slotNamed (modelOf bs) id
+  unnamed-zero h = unnamed (and-first _ (lt-leb 1 (id % 65536) (omega arith)))
+
+  pub unnamed-above : wordAt bs 1 < id % 65536 → 0 ≡ slotNamed (modelOf bs) id
+  unnamed-above h = unnamed (and-second _ (and-first _ (lt-leb (id % 65536) (length (modelOf bs .slots)) (rw length-slots h))))
+
+  module _ (low : (id % 65536 ≡ 0) → ⊥) (high : id % 65536 ≤ wordAt bs 1) where
+    abbrev at : ℕ
+    at = id % 65536 - 1
+
+    at-pred : at ≡ pred (id % 65536)
+    at-pred = omega arith
+
+    live-word : slotOf (modelOf bs) (id % 65536) .live ≡ wordAt bs (slotPlace at + 1)
+    live-word = ap (λ (k : ℕ). getD (modelOf bs .slots) k (freeSlot 0) .live) (sym at-pred) ∙ slot-live bs at (omega arith)
+
+    generation-word : slotOf (modelOf bs) (id % 65536) .generation ≡ wordAt bs (slotPlace at)
+    generation-word = ap (λ (k : ℕ). getD (modelOf bs .slots) k (freeSlot 0) .generation) (sym at-pred) ∙ slot-generation bs at (omega arith)
+
+    pub unnamed-free : (wordAt bs (slotPlace at + 1) ≡ 1 → ⊥) → 0 ≡ slotNamed (modelOf bs) id
+    unnamed-free h =
+        unnamed (and-second _ (and-second _ (and-first _ (ne-eqb (slotOf (modelOf bs) (id % 65536) .live) 1 (λ e. h (sym live-word ∙ e))))))
+
+    pub unnamed-old : (wordAt bs (slotPlace at) ≡ id / 65536 → ⊥) → 0 ≡ slotNamed (modelOf bs) id
+    unnamed-old h =
+        unnamed
+        (and-second _
+        (and-second _
+        (and-second _ (ne-eqb (slotOf (modelOf bs) (id % 65536) .generation) (id / 65536) (λ e. h (sym generation-word ∙ e))))))
+
+    pub named-live : wordAt bs (slotPlace at + 1) ≡ 1 → wordAt bs (slotPlace at) ≡ id / 65536 → id % 65536 ≡ slotNamed (modelOf bs) id
+    named-live l g =
+        let all : names (modelOf bs) id ≡ true =
+        both-and (le-leb 1 (id % 65536) (omega arith))
+        (both-and (le-leb (id % 65536) (length (modelOf bs .slots)) (rw length-slots high))
+        (both-and (eq-eqb (slotOf (modelOf bs) (id % 65536) .live) 1 (live-word ∙ l))
+        (eq-eqb (slotOf (modelOf bs) (id % 65536) .generation) (id / 65536) (generation-word ∙ g))))
+        in
+        sym (if-yes (id % 65536) 0 all)
+
+-- ---- where a task joins a queue
+
+module _ (urgency : ℕ → ℕ) (s : Semaphore) (q : ℕ) (t : Bool) (asked : t ≡ byPriority (s .attributes)) where
+  pub place-ahead : (p r : ℕ) → t ≡ true → p ≡ urgency q → r ≡ ahead urgency p (slotFrom s .queue) → r ≡ placeOf urgency (slotFrom s) q
+  unfolding placeOf
+  place-ahead p r e u a = a ∙ ap (λ (p : ℕ). ahead urgency p (slotFrom s .queue)) u ∙ sym (if-yes _ _ (sym asked ∙ e))
+
+  pub place-rear : t ≡ false → s .waiters ≤ length (s .queue) → s .waiters ≡ placeOf urgency (slotFrom s) q
+  unfolding placeOf
+  place-rear e f = sym (if-no _ _ (sym asked ∙ e) ∙ length-take-le (s .waiters) (s .queue) f)

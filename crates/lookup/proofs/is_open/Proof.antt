@@ -1,0 +1,15 @@
+-- `lookup::is_open` meets its contract.
+use mathlib.Core.Path.{sym}
+use borrow.Author.Tests.{eq-eqb, ne-eqb}
+use Rattle.laws.specs.Choose.{if-yes, if-no}
+use Rattle.lookup.proofs.is_open.Statement.{statement}
+use Rattle.lookup.proofs.is_open.Tie as tie
+
+returns : tie.Need-returns
+returns c = sym (if-no _ _ (if-yes _ _ (eq-eqb _ _ (c .if1 .taken))))
+
+returns-2 : tie.Need-returns-2
+returns-2 c = sym (if-yes _ _ (if-no _ _ (ne-eqb _ _ (c .if1 .left))))
+
+pub is-open-spec : {M : Type 1} → statement M
+is-open-spec = tie.close (tie.spec returns returns-2)

@@ -1,0 +1,224 @@
+// What the calls ask of the tables. Nothing here writes.
+use rules::Task;
+use semaphore::Semaphore;
+ghost use mathlib.Core.Path.{_≡_};
+ghost use mathlib.Core.List.{List, _∷_};
+ghost use Prim.Native.Nat.{suc, pred, _≤_};
+ghost use lib.Dec.{ltb, eqb};
+ghost use Rattle.laws.specs.Choose.{_and_, isnt};
+ghost use Rattle.rules.specs.declared.Task.{Task as TaskModel};
+ghost use Rattle.rules.specs.Machine.{mostUrgent, next, urgency, slotNamed};
+ghost use Rattle.rules.specs.Semaphore.{ahead, placeOf};
+ghost use Rattle.rules.specs.Calls.{taskOnly, anyCaller, callerRefusal, openSlot, firstNamed};
+ghost use Rattle.semaphore.specs.Record.{slotFrom};
+ghost use Rattle.tables.specs.Layout.{modelOf};
+ghost use Rattle.lookup.specs.Fits.{Sized};
+
+// The most urgent ready task among those seen so far, 0 for none, and its priority.
+struct Best {
+    task: u32,
+    priority: u32,
+}
+
+// The best so far and one task more.
+fn better(best: Best, q: u32, v: Task) -> Best
+    ensures { λ r. ⌜ ((vs : List TaskModel) → mostUrgent vs (suc q) (r .task) (r .priority) ≡ mostUrgent (v ∷ vs) q (best .task) (best .priority)) ⌝ }
+{
+    if v.answer == 100 {
+        return best;
+    }
+    if best.priority <= v.priority {
+        return best;
+    }
+    Best {
+        task: q,
+        priority: v.priority,
+    }
+}
+
+pub fn next_task(m: &[u8]) -> u32
+    requires { ⌜ Sized (now m) ⌝ }
+    ensures { λ r. ⌜ r ≡ next (modelOf (now (m .entry))) ⌝ }
+{
+    let n = tables::task_count(m);
+    let mut best = Best {
+        task: 0,
+        priority: 256,
+    };
+    let mut i: u32 = 0;
+    while i < n {
+        let v = tables::load_task(m, i as usize);
+        best = better(best, i + 1, v);
+        i += 1;
+    }
+    best.task
+}
+
+// Where task q stands in the list of tasks, which is counted from 0.
+fn index_of(q: u32) -> u32
+    ensures { λ r. ⌜ r ≡ pred q ⌝ }
+{
+    if q == 0 {
+        return 0;
+    }
+    q - 1
+}
+
+// A task's priority, 0 for a number above N.
+pub fn priority_of(m: &[u8], q: u32) -> u32
+    requires { ⌜ Sized (now m) ⌝ }
+    ensures { λ r. ⌜ r ≡ urgency (modelOf (now (m .entry))) q ⌝ }
+{
+    let n = tables::task_count(m);
+    let i = index_of(q);
+    if n <= i {
+        return 0;
+    }
+    let v = tables::load_task(m, i as usize);
+    v.priority
+}
+
+// Why a task may not call: 4 above N, 14 while it waits, else 0.
+fn caller_refusal(m: &[u8], caller: u32) -> u32
+    requires { ⌜ Sized (now m) × (1 ≤ caller) ⌝ }
+    ensures { λ r. ⌜ r ≡ callerRefusal (modelOf (now (m .entry))) caller ⌝ }
+{
+    let n = tables::task_count(m);
+    if n < caller {
+        return 4;
+    }
+    let v = tables::load_task(m, (caller - 1) as usize);
+    if v.answer == 100 {
+        return 14;
+    }
+    0
+}
+
+// Why a caller may not create, delete or obtain, or 0.
+pub fn task_only(m: &[u8], caller: u32) -> u32
+    requires { ⌜ Sized (now m) ⌝ }
+    ensures { λ r. ⌜ r ≡ taskOnly (modelOf (now (m .entry))) caller 0 ⌝ }
+{
+    if caller == 0 {
+        return 18;
+    }
+    caller_refusal(m, caller)
+}
+
+// Why a caller may not release or flush, or 0.
+pub fn any_caller(m: &[u8], caller: u32) -> u32
+    requires { ⌜ Sized (now m) ⌝ }
+    ensures { λ r. ⌜ r ≡ anyCaller (modelOf (now (m .entry))) caller 0 ⌝ }
+{
+    if caller == 0 {
+        return 0;
+    }
+    caller_refusal(m, caller)
+}
+
+// Whether a slot with these words is free and can be used again.
+fn is_open(live: u32, generation: u32) -> bool
+    ensures { λ r. ⌜ r ≡ (isnt (eqb live 1) and ltb generation 65535) ⌝ }
+{
+    if live == 1 {
+        return false;
+    }
+    generation < 65535
+}
+
+// The lowest free slot that can be used again, or 0.
+pub fn open_slot(m: &[u8]) -> u32
+    requires { ⌜ Sized (now m) ⌝ }
+    ensures { λ r. ⌜ r ≡ openSlot (modelOf (now (m .entry))) ⌝ }
+{
+    let s = tables::slot_count(m);
+    let mut i: u32 = 0;
+    while i < s {
+        let at = 130 + 40 * (i as usize);
+        if is_open(words::word(m, at + 1), words::word(m, at)) {
+            return i + 1;
+        }
+        i += 1;
+    }
+    0
+}
+
+// Whether a slot with these words is a live semaphore of that name.
+fn is_named(live: u32, found: u32, name: u32) -> bool
+    ensures { λ r. ⌜ r ≡ (eqb live 1 and eqb found name) ⌝ }
+{
+    if live == 1 {
+        return found == name;
+    }
+    false
+}
+
+// The lowest slot of a live semaphore of that name, or 0.
+pub fn first_named(m: &[u8], name: u32) -> u32
+    requires { ⌜ Sized (now m) ⌝ }
+    ensures { λ r. ⌜ r ≡ firstNamed name (modelOf (now (m .entry)) .slots) 1 ⌝ }
+{
+    let s = tables::slot_count(m);
+    let mut i: u32 = 0;
+    while i < s {
+        let at = 130 + 40 * (i as usize);
+        if is_named(words::word(m, at + 1), words::word(m, at + 2), name) {
+            return i + 1;
+        }
+        i += 1;
+    }
+    0
+}
+
+// The slot of the live semaphore that an identifier names, or 0.
+pub fn slot_named(m: &[u8], id: u32) -> u32
+    requires { ⌜ Sized (now m) ⌝ }
+    ensures { λ r. ⌜ r ≡ slotNamed (modelOf (now (m .entry))) id ⌝ }
+{
+    let s = tables::slot_count(m);
+    let n = id % 65536;
+    if n == 0 {
+        return 0;
+    }
+    if s < n {
+        return 0;
+    }
+    let at = 130 + 40 * ((n - 1) as usize);
+    if words::word(m, at + 1) != 1 {
+        return 0;
+    }
+    if words::word(m, at) != id / 65536 {
+        return 0;
+    }
+    n
+}
+
+// How many at the front of a queue are of equal or more urgent priority than p.
+fn ahead(m: &[u8], s: Semaphore, p: u32) -> usize
+    requires { ⌜ Sized (now m) × (s .waiters ≤ 32) ⌝ }
+    ensures { λ r. ⌜ r ≡ ahead (urgency (modelOf (now (m .entry)))) p (slotFrom s .queue) ⌝ }
+{
+    let waiters = s.waiters as usize;
+    let queue = s.queue;
+    let mut k = 0;
+    while k < waiters {
+        let u = priority_of(m, queue[k]);
+        if p < u {
+            return k;
+        }
+        k += 1;
+    }
+    k
+}
+
+// Where a task joins a queue.
+pub fn place_of(m: &[u8], s: Semaphore, q: u32) -> usize
+    requires { ⌜ Sized (now m) × (s .waiters ≤ 32) ⌝ }
+    ensures { λ r. ⌜ r ≡ placeOf (urgency (modelOf (now (m .entry)))) (slotFrom s) q ⌝ }
+{
+    if rules::is_by_priority(s.attributes) {
+        let p = priority_of(m, q);
+        return ahead(m, s, p);
+    }
+    s.waiters as usize
+}
