@@ -1,0 +1,5 @@
+pub mod Queues
+pub mod Cases
+pub mod Places
+pub mod Records
+pub mod Whole

@@ -1,0 +1,87 @@
+-- `agreement::is_agreeing` meets its contract: each return is a case of the whole test.
+use borrow.Author.Needs.{needs}
+use mathlib.Core.Path.{_≡_, ap₂, sym, _∙_}
+use mathlib.Core.Bool.{true, false}
+use borrow.Author.Tests.{not-true, not-false}
+use Rattle.laws.specs.Choose.{cases}
+use Rattle.words.specs.Words.{wordAt}
+use Rattle.tables.specs.Layout.{isLaid}
+use Rattle.agreement.specs.Bytes.{countsFit, agreesBytes}
+use Rattle.agreement.proofs.Whole.{bytesTests, laid-bounded, bytes-tested}
+use Rattle.agreement.proofs.is_agreeing.Statement.{statement}
+use Rattle.agreement.proofs.is_agreeing.Tie as tie
+
+-- the whole test in the order of the code
+tests : (c : tie.After-is-layout) → bytesTests (c .before .before .args .m .now) ≡ agreesBytes (c .before .before .args .m .now)
+tests c = bytes-tested (c .before .before .args .m .now) (λ k. c .before .shared-slice-known .given k .fits)
+
+laid : (c : tie.Else1) → isLaid (c .before .before .before .args .m .now) ≡ true
+laid c = sym (c .before .is-layout .ensures) ∙ not-false _ (c .if1 .left)
+
+counts : (c : tie.After-do-counts-fit)
+    → c .do-counts-fit .result ≡ countsFit (wordAt (c .before .before .before .before .before .before .args .m .now) 0) (wordAt (c .before .before .before .before .before .before .args .m .now) 1)
+counts c = c .do-counts-fit .ensures ∙ ap₂ countsFit (c .before .before .task-count .ensures) (c .before .slot-count .ensures)
+
+is-layout-requires : tie.Need-is-layout-requires
+is-layout-requires c κs = search needs
+
+returns : tie.Need-returns
+returns c =
+    let laid : isLaid (c .before .before .before .args .m .now) ≡ false = sym (c .before .is-layout .ensures) ∙ not-true _ (c .if1 .taken) in
+    search cases ∙ tests (c .before)
+
+task-count-requires : tie.Need-task-count-requires
+task-count-requires c κs = laid-bounded _ (laid c) .sized .long
+
+slot-count-requires : tie.Need-slot-count-requires
+slot-count-requires c κs = laid-bounded _ (laid (c .before)) .sized .long
+
+do-counts-fit-requires : tie.Need-do-counts-fit-requires
+do-counts-fit-requires c κs = search needs
+
+returns-2 : tie.Need-returns-2
+returns-2 c =
+    let at = c .before .before .before .before in
+    let h₁ = laid at in
+    let h₂ = sym (counts (c .before)) ∙ not-true _ (c .if2 .taken) in
+    search cases ∙ tests (at .before)
+
+are-tasks-fine-requires : tie.Need-are-tasks-fine-requires
+are-tasks-fine-requires c κs = laid-bounded _ (laid (c .before .before .before .before))
+
+returns-3 : tie.Need-returns-3
+returns-3 c =
+    let passed = c .before .before in
+    let at = passed .before .before .before .before in
+    let h₁ = laid at in
+    let h₂ = sym (counts (passed .before)) ∙ not-false _ (passed .if2 .left) in
+    let h₃ = sym (c .before .are-tasks-fine .ensures) ∙ not-true _ (c .if3 .taken) in
+    search cases ∙ tests (at .before)
+
+are-slots-fine-requires : tie.Need-are-slots-fine-requires
+are-slots-fine-requires c κs = laid-bounded _ (laid (c .before .before .before .before .before .before))
+
+returns-4 : tie.Need-returns-4
+returns-4 c =
+    let last = c .before in
+    let passed = last .before .before in
+    let at = passed .before .before .before .before in
+    let h₁ = laid at in
+    let h₂ = sym (counts (passed .before)) ∙ not-false _ (passed .if2 .left) in
+    let h₃ = sym (last .before .are-tasks-fine .ensures) ∙ not-false _ (last .if3 .left) in
+    c .are-slots-fine .ensures ∙ search cases ∙ tests (at .before)
+
+pub is-agreeing-spec : {M : Type 1} → statement M
+is-agreeing-spec =
+    tie.close
+    (tie.spec
+    is-layout-requires
+    returns
+    task-count-requires
+    slot-count-requires
+    do-counts-fit-requires
+    returns-2
+    are-tasks-fine-requires
+    returns-3
+    are-slots-fine-requires
+    returns-4)

@@ -1,0 +1,3 @@
+pub mod Tests
+pub mod Fine
+pub mod Bytes
