@@ -1,0 +1,4 @@
+pub mod Laws
+pub mod Hits
+pub mod Made
+pub mod Ended

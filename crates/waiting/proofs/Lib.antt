@@ -1,0 +1,5 @@
+pub mod Laws
+pub mod Flushed
+pub mod Released
+pub mod Obtained
+pub mod Ticked
