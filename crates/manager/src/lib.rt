@@ -1,0 +1,121 @@
+// The entry points on lent bytes of any length and content. Each tests first that the bytes are tables that agree.
+use rules::Answer;
+use rules::Call;
+use rules::Wait;
+ghost use mathlib.Core.Path.{_≡_};
+ghost use mathlib.Core.List.{[]};
+ghost use Rattle.rules.specs.declared.Call.the-variants.{Start, Create, Ident, Delete, Obtain, Release, Flush, Tick};
+ghost use Rattle.manager.specs.Entry.{Replied, noNext, entry, taskEntry};
+
+fn internal_error() -> Answer
+    ensures { λ r. ⌜ r ≡ noNext ⌝ }
+{
+    Answer {
+        status: 25,
+        value: 0,
+        next: 0,
+    }
+}
+
+pub fn start(m: &mut [u8], slots: u32, priorities: &[u32]) -> Answer
+    ensures { λ r. ⌜ Replied r (now (m .exit)) (entry (now (m .entry)) (Start slots) (now (priorities .entry))) ⌝ }
+{
+    if !agreement::is_agreeing(m) {
+        return internal_error();
+    }
+    lifecycle::start(m, slots, priorities)
+}
+
+pub fn create(m: &mut [u8], caller: u32, name: u32, count: u32, attributes: u32) -> Answer
+    ensures { λ r. ⌜ Replied r (now (m .exit)) (entry (now (m .entry)) (Create caller name count attributes) []) ⌝ }
+{
+    if !agreement::is_agreeing(m) {
+        return internal_error();
+    }
+    lifecycle::create(m, caller, name, count, attributes)
+}
+
+pub fn ident(m: &[u8], name: u32) -> Answer
+    ensures { λ r. ⌜ Replied r (now (m .entry)) (entry (now (m .entry)) (Ident name) []) ⌝ }
+{
+    if !agreement::is_agreeing(m) {
+        return internal_error();
+    }
+    lifecycle::ident(m, name)
+}
+
+pub fn delete(m: &mut [u8], caller: u32, id: u32) -> Answer
+    ensures { λ r. ⌜ Replied r (now (m .exit)) (entry (now (m .entry)) (Delete caller id) []) ⌝ }
+{
+    if !agreement::is_agreeing(m) {
+        return internal_error();
+    }
+    lifecycle::delete(m, caller, id)
+}
+
+pub fn obtain(m: &mut [u8], caller: u32, id: u32, wait: Wait) -> Answer
+    ensures { λ r. ⌜ Replied r (now (m .exit)) (entry (now (m .entry)) (Obtain caller id wait) []) ⌝ }
+{
+    if !agreement::is_agreeing(m) {
+        return internal_error();
+    }
+    waiting::obtain(m, caller, id, wait)
+}
+
+pub fn release(m: &mut [u8], caller: u32, id: u32) -> Answer
+    ensures { λ r. ⌜ Replied r (now (m .exit)) (entry (now (m .entry)) (Release caller id) []) ⌝ }
+{
+    if !agreement::is_agreeing(m) {
+        return internal_error();
+    }
+    waiting::release(m, caller, id)
+}
+
+pub fn flush(m: &mut [u8], caller: u32, id: u32) -> Answer
+    ensures { λ r. ⌜ Replied r (now (m .exit)) (entry (now (m .entry)) (Flush caller id) []) ⌝ }
+{
+    if !agreement::is_agreeing(m) {
+        return internal_error();
+    }
+    waiting::flush(m, caller, id)
+}
+
+pub fn tick(m: &mut [u8]) -> Answer
+    ensures { λ r. ⌜ Replied r (now (m .exit)) (entry (now (m .entry)) Tick []) ⌝ }
+{
+    if !agreement::is_agreeing(m) {
+        return internal_error();
+    }
+    waiting::tick(m)
+}
+
+// The latest answer of a task, 100 while it waits: how a woken task learns how its wait ended.
+pub fn task(m: &[u8], q: u32) -> Answer
+    ensures { λ r. ⌜ r ≡ taskEntry (now (m .entry)) q ⌝ }
+{
+    if !agreement::is_agreeing(m) {
+        return internal_error();
+    }
+    lifecycle::task(m, q)
+}
+
+// A call as an enum, with the priorities that a start takes beside it.
+pub fn call(m: &mut [u8], c: Call, priorities: &[u32]) -> Answer
+    ensures { λ r. ⌜ Replied r (now (m .exit)) (entry (now (m .entry)) c (now (priorities .entry))) ⌝ }
+{
+    match c {
+        Call::Start { slots } => start(m, slots, priorities),
+        Call::Create {
+            caller,
+            name,
+            count,
+            attributes,
+        } => create(m, caller, name, count, attributes),
+        Call::Ident { name } => ident(m, name),
+        Call::Delete { caller, id } => delete(m, caller, id),
+        Call::Obtain { caller, id, wait } => obtain(m, caller, id, wait),
+        Call::Release { caller, id } => release(m, caller, id),
+        Call::Flush { caller, id } => flush(m, caller, id),
+        Call::Tick => tick(m),
+    }
+}

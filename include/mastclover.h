@@ -1,0 +1,245 @@
+/*
+ * mastclover.h - a semaphore manager with the rules of RTEMS Classic, for one processor.
+ *
+ * The manager keeps tasks and semaphores in memory that the caller lends; it has no state of its
+ * own, allocates nothing and calls only memcpy. It does not switch tasks either: every call says in
+ * `next` which task should run now, and the firmware switches to it.
+ *
+ *     static uint8_t tables[MAST_TABLES_LENGTH];               (all zeros: not started yet)
+ *     static const uint32_t priorities[] = { 10, 20 };         (task 1 and task 2)
+ *
+ *     mast_answer answer = mast_start(tables, sizeof tables, 4, priorities, 2);
+ *     answer = mast_create(tables, sizeof tables, 1, 77, 1, MAST_BINARY_SEMAPHORE | MAST_PRIORITY);
+ *     uint32_t bus = answer.value;
+ *     answer = mast_obtain(tables, sizeof tables, 2, bus, MAST_WAIT, MAST_NO_TIMEOUT);
+ *
+ * Link with libmastclover.a, which is built for x86-64 Linux today.
+ *
+ * Tasks are numbered 1 to N in the order of their priorities at start, N at most 32. Priority 1 is
+ * the most urgent, 255 the least. A task is ready, or waits on one semaphore.
+ *
+ * Callers. `caller` is the number of the task that makes the call. An interrupt is caller 0; it may
+ * call mast_release and mast_flush. mast_start, mast_ident, mast_tick and mast_task have no caller and
+ * may be called from anywhere. A call must not be interrupted by another one on the same tables: mask
+ * interrupts around each call if handlers make calls too.
+ *
+ * Waiting. mast_obtain never blocks. MAST_WAITING says that the caller now waits: it must not make
+ * calls before it is ready again. How its wait ended is then the value of mast_task: MAST_SUCCESSFUL
+ * (it has the semaphore), MAST_TIMEOUT, MAST_OBJECT_WAS_DELETED or MAST_UNSATISFIED (flushed).
+ *
+ * Identifiers are generation * 65536 + slot, with slots from 1. A slot's generation goes up by one
+ * with each create, so the identifier of a deleted semaphore is never given again. A slot freed at
+ * generation 65535 is not used again.
+ *
+ * Refusals. Every status but MAST_SUCCESSFUL and MAST_WAITING is a refusal: no byte of the tables
+ * has changed. Each call names its statuses in the order in which they are tested.
+ *
+ * The tables. Words of four bytes, high byte first, at any alignment:
+ *     word 0              N, the number of tasks
+ *     word 1              S, the number of slots
+ *     words 2 to 129      four for each of 32 tasks: priority, answer, identifier waited on, ticks left
+ *     words 130 to 2689   forty for each of 64 slots: generation, live (0 or 1), name, attributes,
+ *                         count, owner, nest, queue length, and 32 of the queue (task numbers, the
+ *                         first to be served first)
+ * What lies beyond N, S or a queue's length is 0, and so is a free slot but for its generation.
+ * Every call tests the whole of the tables first: MAST_INTERNAL_ERROR says that the memory has
+ * another length or that its numbers contradict each other, so something else wrote to it. The call
+ * has then changed nothing.
+ */
+#ifndef MASTCLOVER_H
+#define MASTCLOVER_H
+
+#include <stddef.h>
+#include <stdint.h>
+
+#ifdef __cplusplus
+extern "C" {
+#endif
+
+/* The length in bytes of the tables; no other length is accepted. */
+#define MAST_TABLES_LENGTH 10760
+
+/* The limits of mast_start. */
+#define MAST_MAXIMUM_TASKS 32
+#define MAST_MAXIMUM_SLOTS 64
+#define MAST_MINIMUM_PRIORITY 1   /* the most urgent, as in RTEMS */
+#define MAST_MAXIMUM_PRIORITY 255
+
+/* Statuses, with the names and numbers of RTEMS (RTEMS_SUCCESSFUL and so on). */
+#define MAST_SUCCESSFUL 0             /* done; as a task's answer: the wait ended with the semaphore */
+#define MAST_INVALID_NAME 3           /* name 0, or no live semaphore has the name */
+#define MAST_INVALID_ID 4             /* no live semaphore has the identifier; no such task */
+#define MAST_TOO_MANY 5               /* no slot is left for another semaphore */
+#define MAST_TIMEOUT 6                /* a task's answer only: its ticks ran out */
+#define MAST_OBJECT_WAS_DELETED 7     /* a task's answer only: the semaphore was deleted */
+#define MAST_INVALID_NUMBER 10        /* a count above 1 for a binary class; N or S out of limits */
+#define MAST_NOT_DEFINED 11           /* attributes that are not offered */
+#define MAST_RESOURCE_IN_USE 12       /* the binary semaphore has an owner */
+#define MAST_UNSATISFIED 13           /* not to be had, or at its maximum; a task's answer: flushed */
+#define MAST_INCORRECT_STATE 14       /* the caller is waiting; already started */
+#define MAST_CALLED_FROM_ISR 18       /* an interrupt (caller 0) may not make this call */
+#define MAST_INVALID_PRIORITY 19      /* a priority outside 1 to 255 */
+#define MAST_NOT_OWNER_OF_RESOURCE 23 /* only its owner may release a binary semaphore */
+#define MAST_INTERNAL_ERROR 25        /* the tables are damaged or have the wrong length */
+#define MAST_WAITING 100              /* not of RTEMS: the caller now waits; a task's answer: it waits */
+
+/* Attributes of mast_create: one order and one class, added. Any other bit is MAST_NOT_DEFINED. */
+#define MAST_DEFAULT_ATTRIBUTES 0      /* FIFO, counting */
+#define MAST_FIFO 0                    /* waiters are served by arrival */
+#define MAST_PRIORITY 4                /* waiters are served by priority, equals by arrival */
+#define MAST_COUNTING_SEMAPHORE 0      /* a count up to 4294967295, released by anyone */
+#define MAST_BINARY_SEMAPHORE 16       /* has an owner, who may nest and who alone may release */
+#define MAST_SIMPLE_BINARY_SEMAPHORE 32 /* a count of 0 or 1, no owner, no nesting, released by anyone */
+
+/* Options of mast_obtain. Only bit 0 has an effect. */
+#define MAST_DEFAULT_OPTIONS 0
+#define MAST_WAIT 0
+#define MAST_NO_WAIT 1
+
+/* The timeout of mast_obtain that waits for ever. */
+#define MAST_NO_TIMEOUT 0
+
+/*
+ * What every call gives back. `value` is 0 unless a call says otherwise. `next` is the task to run:
+ * of the ready tasks the most urgent, among equals the one with the lowest number, or 0 if no task
+ * is ready. With MAST_INTERNAL_ERROR both are 0.
+ */
+typedef struct {
+    uint32_t status;
+    uint32_t value;
+    uint32_t next;
+} mast_answer;
+
+/*
+ * In every call `tables` points to `length` bytes that the caller lends for the time of the call;
+ * it is not NULL.
+ */
+
+/*
+ * Starts the machine with `slots` semaphore slots (1 to 64) and `count` tasks (1 to 32), whose
+ * priorities (1 to 255) `priorities` points to: the first is task 1's. All tasks are ready.
+ * `priorities` may be NULL only when `count` is 0; it must not overlap the tables. To start afresh, set all bytes to 0 first.
+ *
+ *   MAST_INTERNAL_ERROR    the tables are damaged or have the wrong length
+ *   MAST_INCORRECT_STATE   already started
+ *   MAST_INVALID_NUMBER    `count` or `slots` out of limits
+ *   MAST_INVALID_PRIORITY  a priority out of limits
+ *   MAST_SUCCESSFUL
+ */
+mast_answer mast_start(uint8_t *tables, size_t length, uint32_t slots, const uint32_t *priorities,
+                       size_t count);
+
+/*
+ * Makes a semaphore in the lowest free slot; its identifier is the value. Several may have the same
+ * name. `count` is how often it can be obtained at first. A binary semaphore made with count 0 is
+ * owned by the caller, once. Not from an interrupt.
+ *
+ *   MAST_INTERNAL_ERROR    the tables are damaged or have the wrong length
+ *   MAST_CALLED_FROM_ISR   caller 0
+ *   MAST_INVALID_ID        no such caller
+ *   MAST_INCORRECT_STATE   the caller is waiting
+ *   MAST_INVALID_NAME      name 0
+ *   MAST_NOT_DEFINED       attributes other than one order and one class
+ *   MAST_INVALID_NUMBER    a count above 1 for a binary or simple binary semaphore
+ *   MAST_TOO_MANY          no free slot with a generation below 65535
+ *   MAST_SUCCESSFUL        value: the identifier
+ */
+mast_answer mast_create(uint8_t *tables, size_t length, uint32_t caller, uint32_t name,
+                        uint32_t count, uint32_t attributes);
+
+/*
+ * Finds the live semaphore of that name in the lowest slot; its identifier is the value. From
+ * anywhere. Changes nothing.
+ *
+ *   MAST_INTERNAL_ERROR    the tables are damaged or have the wrong length
+ *   MAST_INVALID_NAME      name 0, or no live semaphore has it
+ *   MAST_SUCCESSFUL        value: the identifier
+ */
+mast_answer mast_ident(const uint8_t *tables, size_t length, uint32_t name);
+
+/*
+ * Deletes a semaphore. All its waiters become ready with answer MAST_OBJECT_WAS_DELETED. Not from
+ * an interrupt.
+ *
+ *   MAST_INTERNAL_ERROR    the tables are damaged or have the wrong length
+ *   MAST_CALLED_FROM_ISR   caller 0
+ *   MAST_INVALID_ID        no such caller
+ *   MAST_INCORRECT_STATE   the caller is waiting
+ *   MAST_INVALID_ID        no live semaphore has the identifier
+ *   MAST_RESOURCE_IN_USE   a binary semaphore that has an owner, even if that is the caller
+ *   MAST_SUCCESSFUL
+ */
+mast_answer mast_delete(uint8_t *tables, size_t length, uint32_t caller, uint32_t id);
+
+/*
+ * Obtains a semaphore. With a count above 0 the count goes down by one, and a binary semaphore gets
+ * the caller as its owner. The owner of a binary semaphore obtains it once more, to be released as
+ * often. Otherwise MAST_NO_WAIT refuses and MAST_WAIT queues the caller, which then waits for
+ * `timeout` ticks, or for ever with MAST_NO_TIMEOUT; with MAST_NO_WAIT the timeout has no effect. A
+ * simple binary semaphore makes even the task that holds it wait. Not from an interrupt.
+ *
+ *   MAST_INTERNAL_ERROR    the tables are damaged or have the wrong length
+ *   MAST_CALLED_FROM_ISR   caller 0
+ *   MAST_INVALID_ID        no such caller
+ *   MAST_INCORRECT_STATE   the caller is waiting
+ *   MAST_INVALID_ID        no live semaphore has the identifier
+ *   MAST_UNSATISFIED       not to be had and MAST_NO_WAIT, or nested 4294967295 times already
+ *   MAST_SUCCESSFUL        the caller has it
+ *   MAST_WAITING           the caller waits; mast_task will say how that ends
+ */
+mast_answer mast_obtain(uint8_t *tables, size_t length, uint32_t caller, uint32_t id,
+                        uint32_t options, uint32_t timeout);
+
+/*
+ * Releases a semaphore. A binary semaphore obtained more than once is released once. Otherwise the
+ * first waiter gets it and becomes ready with answer MAST_SUCCESSFUL; without a waiter the count
+ * goes up by one. Also from an interrupt, as caller 0, but for binary semaphores.
+ *
+ *   MAST_INTERNAL_ERROR    the tables are damaged or have the wrong length
+ *   MAST_INVALID_ID        no such caller
+ *   MAST_INCORRECT_STATE   the caller is waiting
+ *   MAST_INVALID_ID        no live semaphore has the identifier
+ *   MAST_NOT_OWNER_OF_RESOURCE  a binary semaphore that the caller does not own; always for caller 0
+ *   MAST_UNSATISFIED       the count is at its maximum: 4294967295, or 1 for a simple binary semaphore
+ *   MAST_SUCCESSFUL
+ */
+mast_answer mast_release(uint8_t *tables, size_t length, uint32_t caller, uint32_t id);
+
+/*
+ * Wakes all waiters of a semaphore with answer MAST_UNSATISFIED. Its count and its owner stay. Also
+ * from an interrupt, as caller 0.
+ *
+ *   MAST_INTERNAL_ERROR    the tables are damaged or have the wrong length
+ *   MAST_INVALID_ID        no such caller
+ *   MAST_INCORRECT_STATE   the caller is waiting
+ *   MAST_INVALID_ID        no live semaphore has the identifier
+ *   MAST_SUCCESSFUL        also if nobody waited
+ */
+mast_answer mast_flush(uint8_t *tables, size_t length, uint32_t caller, uint32_t id);
+
+/*
+ * One tick of the clock, usually from its interrupt. Every wait with a timeout loses one tick; one
+ * that had a single tick left ends with answer MAST_TIMEOUT.
+ *
+ *   MAST_INTERNAL_ERROR    the tables are damaged or have the wrong length
+ *   MAST_SUCCESSFUL
+ */
+mast_answer mast_tick(uint8_t *tables, size_t length);
+
+/*
+ * A task's answer: MAST_WAITING while it waits, otherwise how its latest wait ended, which is
+ * MAST_SUCCESSFUL, MAST_TIMEOUT, MAST_OBJECT_WAS_DELETED or MAST_UNSATISFIED. A task that has never
+ * waited has MAST_SUCCESSFUL; an obtain that did not wait leaves the answer as it was. From anywhere.
+ * Changes nothing.
+ *
+ *   MAST_INTERNAL_ERROR    the tables are damaged or have the wrong length
+ *   MAST_INVALID_ID        no such task; 0 is none
+ *   MAST_SUCCESSFUL        value: the task's answer
+ */
+mast_answer mast_task(const uint8_t *tables, size_t length, uint32_t task);
+
+#ifdef __cplusplus
+}
+#endif
+
+#endif
