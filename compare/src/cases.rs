@@ -1,0 +1,195 @@
+//! The cases that document 01 names, run on any manager.
+
+use crate::call::{Answer, Call, Manager};
+use crate::layout::{self, LENGTH};
+use crate::lent::Lent;
+
+/// The tables of one case, and the first answer that was not the paper's.
+struct Case<'a> {
+    subject: &'a mut dyn Manager,
+    tables: Lent,
+    done: u64,
+    failed: Option<String>,
+}
+
+impl Case<'_> {
+    fn expect(&mut self, call: Call, status: u32, value: u32, next: u32) {
+        let wanted = Answer::new(status, value, next);
+        let found = self.subject.call(self.tables.bytes_mut(), &call);
+        self.done += 1;
+        if self.failed.is_some() {
+            return;
+        }
+        if found != wanted {
+            self.failed = Some(format!("{call:?}: the paper says {wanted:?}, got {found:?}"));
+        } else if !self.tables.guards_hold() {
+            self.failed = Some(format!("{call:?}: bytes outside the lent memory were written"));
+        }
+    }
+
+    fn start(&mut self, slots: u32, priorities: &[u32], next: u32) {
+        self.expect(Call::Start { slots, priorities: priorities.to_vec() }, 0, 0, next);
+    }
+
+    fn create(&mut self, caller: u32, name: u32, count: u32, attributes: u32, wanted: [u32; 3]) {
+        let call = Call::Create { caller, name, count, attributes };
+        self.expect(call, wanted[0], wanted[1], wanted[2]);
+    }
+
+    fn obtain(&mut self, caller: u32, id: u32, timeout: u32, wanted: [u32; 3]) {
+        let call = Call::Obtain { caller, id, options: 0, timeout };
+        self.expect(call, wanted[0], wanted[1], wanted[2]);
+    }
+
+    fn release(&mut self, caller: u32, id: u32, wanted: [u32; 3]) {
+        self.expect(Call::Release { caller, id }, wanted[0], wanted[1], wanted[2]);
+    }
+
+    fn task(&mut self, task: u32, answer: u32, next: u32) {
+        self.expect(Call::Task { task }, 0, answer, next);
+    }
+}
+
+/// A case's name and what runs it.
+type Named = (&'static str, fn(&mut Case));
+
+const CASES: [Named; 14] = [
+    ("P1 to P11", worked_session),
+    ("P12", |case| {
+        case.start(1, &[1], 1);
+        case.create(1, 5, u32::MAX, 0, [0, 65537, 1]);
+        case.release(1, 65537, [13, 0, 1]);
+    }),
+    ("P13", |case| {
+        case.start(1, &[1], 1);
+        case.create(1, 5, 1, 32, [0, 65537, 1]);
+        case.release(0, 65537, [13, 0, 1]);
+    }),
+    ("P14", |case| {
+        case.start(1, &[1], 1);
+        case.create(1, 5, 1, 16, [0, 65537, 1]);
+        case.release(0, 65537, [23, 0, 1]);
+    }),
+    ("refusals of create", |case| {
+        case.start(2, &[1], 1);
+        case.create(1, 0, 0, 48, [3, 0, 1]);
+        case.create(1, 9, 0, 48, [11, 0, 1]);
+        case.create(1, 9, 2, 16, [10, 0, 1]);
+        case.create(1, 9, 1, 16, [0, 65537, 1]);
+    }),
+    ("the 65th create", |case| {
+        case.start(64, &[1], 1);
+        for slot in 1..=64 {
+            case.create(1, 9, 0, 0, [0, 65536 + slot, 1]);
+        }
+        case.create(1, 9, 0, 0, [5, 0, 1]);
+    }),
+    ("timeout 1", |case| {
+        case.start(1, &[1, 2], 1);
+        case.create(1, 9, 0, 0, [0, 65537, 1]);
+        case.obtain(1, 65537, 1, [100, 0, 2]);
+        case.task(1, 100, 2);
+        case.expect(Call::Tick, 0, 0, 1);
+        case.task(1, 6, 1);
+        // The count goes up: nobody is left in the queue to be woken twice.
+        case.release(2, 65537, [0, 0, 1]);
+        case.task(1, 6, 1);
+        case.obtain(2, 65537, 0, [0, 0, 1]);
+    }),
+    ("equal priorities by arrival", |case| {
+        case.start(1, &[7, 7, 7, 3], 4);
+        case.create(4, 9, 0, 4, [0, 65537, 4]);
+        for caller in [3, 1, 2] {
+            case.obtain(caller, 65537, 0, [100, 0, 4]);
+        }
+        for woken in [3, 1, 2] {
+            case.release(0, 65537, [0, 0, 4]);
+            case.task(woken, 0, 4);
+        }
+    }),
+    ("FIFO ignores priority", |case| {
+        case.start(1, &[9, 1, 5, 3], 2);
+        case.create(4, 9, 0, 0, [0, 65537, 2]);
+        case.obtain(1, 65537, 0, [100, 0, 2]);
+        case.obtain(2, 65537, 0, [100, 0, 4]);
+        case.obtain(3, 65537, 0, [100, 0, 4]);
+        case.release(0, 65537, [0, 0, 4]);
+        case.task(1, 0, 4);
+        case.release(0, 65537, [0, 0, 2]);
+        case.release(0, 65537, [0, 0, 2]);
+    }),
+    ("a simple binary semaphore makes even its holder wait", |case| {
+        case.start(1, &[1, 2], 1);
+        case.create(1, 9, 1, 32, [0, 65537, 1]);
+        case.obtain(1, 65537, 0, [0, 0, 1]);
+        case.obtain(1, 65537, 0, [100, 0, 2]);
+        case.release(2, 65537, [0, 0, 1]);
+        case.task(1, 0, 1);
+    }),
+    ("ident gives the lowest slot of the name", |case| {
+        case.start(3, &[1], 1);
+        case.create(1, 8, 0, 0, [0, 65537, 1]);
+        case.create(1, 9, 0, 0, [0, 65538, 1]);
+        case.create(1, 9, 0, 0, [0, 65539, 1]);
+        case.expect(Call::Ident { name: 9 }, 0, 65538, 1);
+        case.expect(Call::Delete { caller: 1, id: 65538 }, 0, 0, 1);
+        case.expect(Call::Ident { name: 9 }, 0, 65539, 1);
+        case.expect(Call::Ident { name: 0 }, 3, 0, 1);
+    }),
+    ("nest at its end", |case| {
+        case.start(1, &[1], 1);
+        case.create(1, 9, 0, 16, [0, 65537, 1]);
+        layout::set_word(case.tables.bytes_mut(), layout::slot_at(0) + 6, u32::MAX);
+        case.obtain(1, 65537, 0, [13, 0, 1]);
+        case.release(1, 65537, [0, 0, 1]);
+        case.obtain(1, 65537, 0, [0, 0, 1]);
+    }),
+    ("a slot retires", |case| {
+        case.start(1, &[1], 1);
+        layout::set_word(case.tables.bytes_mut(), layout::slot_at(0), 65534);
+        case.create(1, 9, 0, 0, [0, 65535 * 65536 + 1, 1]);
+        case.expect(Call::Delete { caller: 1, id: 65535 * 65536 + 1 }, 0, 0, 1);
+        case.create(1, 9, 0, 0, [5, 0, 1]);
+    }),
+    ("a machine not yet started", |case| {
+        case.expect(Call::Tick, 0, 0, 0);
+        case.expect(Call::Ident { name: 1 }, 3, 0, 0);
+        case.create(0, 9, 0, 0, [18, 0, 0]);
+        case.create(1, 9, 0, 0, [4, 0, 0]);
+        case.release(0, 65537, [4, 0, 0]);
+        case.expect(Call::Task { task: 0 }, 4, 0, 0);
+        case.expect(Call::Start { slots: 1, priorities: vec![] }, 10, 0, 0);
+        case.expect(Call::Start { slots: 0, priorities: vec![0] }, 10, 0, 0);
+        case.expect(Call::Start { slots: 1, priorities: vec![256] }, 19, 0, 0);
+        case.start(64, &[255; 32], 1);
+        case.expect(Call::Start { slots: 0, priorities: vec![] }, 14, 0, 1);
+    }),
+];
+
+fn worked_session(case: &mut Case) {
+    case.start(4, &[10, 20], 1);
+    case.create(1, 77, 1, 20, [0, 65537, 1]);
+    case.obtain(2, 65537, 0, [0, 0, 1]);
+    case.obtain(1, 65537, 3, [100, 0, 2]);
+    case.expect(Call::Tick, 0, 0, 2);
+    case.release(2, 65537, [0, 0, 1]);
+    case.expect(Call::Delete { caller: 2, id: 65537 }, 12, 0, 1);
+    case.release(1, 65537, [0, 0, 1]);
+    case.expect(Call::Delete { caller: 1, id: 65537 }, 0, 0, 1);
+    case.obtain(1, 65537, 0, [4, 0, 1]);
+    case.create(1, 78, 2, 0, [0, 131073, 1]);
+}
+
+/// Runs every case; how many calls were made, or the first answer that is not the paper's.
+pub fn run(subject: &mut dyn Manager) -> Result<u64, String> {
+    let mut done = 0;
+    for (name, run_case) in CASES {
+        let mut case = Case { subject, tables: Lent::new(&[0; LENGTH], 0), done: 0, failed: None };
+        run_case(&mut case);
+        if let Some(failure) = case.failed {
+            return Err(format!("case \"{name}\": {failure}"));
+        }
+        done += case.done;
+    }
+    Ok(done)
+}

@@ -1,0 +1,212 @@
+//! Damaged tables: 25 and nothing changed, or served, as this project's own code does.
+
+use crate::call::{Answer, Call, Manager, KINDS};
+use crate::generate::Plan;
+use crate::layout::{self, set_word, slot_at, task_at, word, word_name, Model, LENGTH, WORDS};
+use crate::lent::{Comparison, Difference, Lent, Place};
+use crate::model::Machine;
+use crate::mutate::mutate;
+use crate::rng::Rng;
+
+type Compared = Result<(), Box<Difference>>;
+
+/// Calls made on every damaged table: one of each kind, drawn for the tables before the damage.
+fn probes(rng: &mut Rng, machine: &Machine) -> Vec<Call> {
+    let plan = Plan::draw(rng);
+    (0..KINDS.len()).map(|kind| plan.draw_kind(rng, machine, kind)).collect()
+}
+
+/// Makes each call on its own copy of the bytes.
+fn probe(comparison: &mut Comparison, place: Place, calls: &[Call], lent: &mut Lent) -> Compared {
+    let bytes = lent.bytes().to_vec();
+    let machine = layout::read(&bytes);
+    comparison.coverage.damaged(machine.is_some());
+    for call in calls {
+        let compared = match &machine {
+            None => comparison.step(place, call, lent, Answer::DISAGREE, &bytes),
+            Some(machine) => {
+                let mut machine = machine.clone();
+                let answer = machine.call(call);
+                let compared = comparison.step(place, call, lent, answer, &layout::write(&machine));
+                lent.bytes_mut().copy_from_slice(&bytes);
+                compared
+            }
+        };
+        compared?;
+    }
+    Ok(())
+}
+
+/// The same, with words for what was damaged in case of a difference.
+fn probe_damaged(
+    comparison: &mut Comparison,
+    place: Place,
+    calls: &[Call],
+    lent: &mut Lent,
+    damage: impl Fn() -> String,
+) -> Compared {
+    probe(comparison, place, calls, lent).map_err(|mut difference| {
+        difference.damage = Some(damage());
+        difference
+    })
+}
+
+/// Every length from 0 to a little above the layout's.
+pub fn every_length(comparison: &mut Comparison) -> Compared {
+    let mut rng = Rng::new(0);
+    for machine in bases() {
+        let calls = probes(&mut rng, &machine);
+        let mut bytes = layout::write(&machine);
+        bytes.resize(LENGTH + 40, 0);
+        for length in 0..=bytes.len() {
+            let place = Place { part: "every length", seed: 0, step: length as u64 };
+            let mut lent = Lent::new(&bytes[..length], length % 4);
+            probe_damaged(comparison, place, &calls, &mut lent, || format!("length {length}"))?;
+        }
+    }
+    Ok(())
+}
+
+/// Every single word of several agreeing tables, set to each of a set of values.
+pub fn every_word(comparison: &mut Comparison) -> Compared {
+    for (base, machine) in (0..).zip(bases()) {
+        let calls = probes(&mut Rng::new(base), &machine);
+        let mut lent = Lent::new(&layout::write(&machine), base as usize % 4);
+        for at in 0..WORDS {
+            let place = Place { part: "every word", seed: base, step: at as u64 };
+            let values = values(word(lent.bytes(), at));
+            set_to_each(comparison, place, &calls, &mut lent, at, &values)?;
+        }
+    }
+    every_small_number(comparison)
+}
+
+/// Every small number in every word that small tables use, so that no wrong answer or attribute passes.
+fn every_small_number(comparison: &mut Comparison) -> Compared {
+    let machine = small();
+    let calls = probes(&mut Rng::new(0), &machine);
+    let mut lent = Lent::new(&layout::write(&machine), 0);
+    let numbers: Vec<u32> = (0..=300).collect();
+    let tasks = 0..task_at(machine.tasks.len() as u32 + 1);
+    for at in tasks.chain(slot_at(0)..slot_at(machine.slots.len())) {
+        let place = Place { part: "every small number", seed: 0, step: at as u64 };
+        set_to_each(comparison, place, &calls, &mut lent, at, &numbers)?;
+    }
+    Ok(())
+}
+
+/// Sets one word to each value in turn, and puts back what was there.
+fn set_to_each(
+    comparison: &mut Comparison,
+    place: Place,
+    calls: &[Call],
+    lent: &mut Lent,
+    at: usize,
+    values: &[u32],
+) -> Compared {
+    let was = word(lent.bytes(), at);
+    for &value in values {
+        set_word(lent.bytes_mut(), at, value);
+        let damage = || format!("{} was {was}, set to {value}", word_name(at));
+        probe_damaged(comparison, place, calls, lent, damage)?;
+    }
+    set_word(lent.bytes_mut(), at, was);
+    Ok(())
+}
+
+/// Numbers at the ends of the limits, close to what was there, and the same with one byte altered.
+fn values(was: u32) -> [u32; 18] {
+    let next = was.wrapping_add(1);
+    let last = was.wrapping_sub(1);
+    let high = was ^ 0x0100_0000;
+    let middle = was ^ 0x0001_0000;
+    let low = was ^ 0x0100;
+    [0, 1, 2, 4, 7, 16, 32, 33, 64, 65, 100, 256, 65536, u32::MAX, next, last, high ^ middle, low]
+}
+
+/// Random damage to the tables that a random sequence ended in, and random bytes.
+pub fn at_random(comparison: &mut Comparison, seed: u64, machine: &Machine) -> Compared {
+    let mut rng = Rng::new(!seed);
+    let whole = layout::write(machine);
+    for step in 0..60 {
+        let calls = probes(&mut rng, machine);
+        let mut bytes = whole.clone();
+        let times = rng.pick(&[1, 1, 2, 3]);
+        let done: Vec<String> = (0..times).map(|_| mutate(&mut rng, machine, &mut bytes)).collect();
+        let place = Place { part: "random damage", seed, step };
+        let mut lent = Lent::new(&bytes, rng.below(4));
+        probe_damaged(comparison, place, &calls, &mut lent, || done.join("; then "))?;
+    }
+    random_bytes(comparison, seed, &mut rng, machine)
+}
+
+fn random_bytes(comparison: &mut Comparison, seed: u64, rng: &mut Rng, machine: &Machine) -> Compared {
+    let calls = probes(rng, machine);
+    let any_length = rng.below(LENGTH + 100);
+    let length = rng.pick(&[LENGTH, LENGTH, any_length]);
+    // Small numbers in whole words pass the first tests of a reader more often.
+    let words = rng.chance(50);
+    let mut bytes: Vec<u8> =
+        (0..length).map(|at| if words && at % 4 != 3 { 0 } else { rng.word() as u8 }).collect();
+    if words && length == LENGTH {
+        set_word(&mut bytes, 0, machine.tasks.len() as u32);
+        set_word(&mut bytes, 1, machine.slots.len() as u32);
+    }
+    let place = Place { part: "random bytes", seed, step: 0 };
+    let mut lent = Lent::new(&bytes, rng.below(4));
+    probe_damaged(comparison, place, &calls, &mut lent, || format!("{length} random bytes"))
+}
+
+fn made_by(calls: &[Call]) -> Machine {
+    let mut tables = vec![0; LENGTH];
+    for call in calls {
+        Model.call(&mut tables, call);
+    }
+    layout::read(&tables).expect("tables that calls made agree")
+}
+
+fn wait(caller: u32, id: u32, timeout: u32) -> Call {
+    Call::Obtain { caller, id, options: 0, timeout }
+}
+
+/// Several agreeing tables: unstarted, without a semaphore, small, crowded, and with one long queue.
+pub fn bases() -> Vec<Machine> {
+    let fresh = made_by(&[Call::Start { slots: 1, priorities: vec![1] }]);
+    vec![Machine::default(), fresh, small(), crowded(), long_queue()]
+}
+
+/// Two tasks wait for the binary semaphore of the third.
+fn small() -> Machine {
+    made_by(&[
+        Call::Start { slots: 2, priorities: vec![3, 2, 2] },
+        Call::Create { caller: 3, name: 9, count: 0, attributes: 20 },
+        Call::Create { caller: 3, name: 9, count: 1, attributes: 32 },
+        wait(1, 65537, 4),
+        wait(2, 65537, 0),
+    ])
+}
+
+/// 32 tasks with ties, 60 live slots of all kinds and 4 freed ones, most tasks in queues.
+fn crowded() -> Machine {
+    let priorities = (0..32).map(|task| 1 + task % 5).collect();
+    let mut calls = vec![Call::Start { slots: 64, priorities }];
+    for slot in 0..64 {
+        let attributes = [0, 4, 16, 20, 32, 36][slot as usize % 6];
+        calls.push(Call::Create { caller: 32, name: 1 + slot % 40, count: slot / 6 % 2, attributes });
+    }
+    // Freed slots keep their generation.
+    calls.extend([1, 8, 26, 62].map(|slot| Call::Delete { caller: 32, id: 65536 + slot }));
+    calls.extend((1..=30).map(|task| wait(task, 65536 + 3 + task % 7, task % 4)));
+    made_by(&calls)
+}
+
+/// 31 tasks wait in one PRIORITY queue for a binary semaphore.
+fn long_queue() -> Machine {
+    let priorities = (0..32).map(|task| 255 - task / 2).collect();
+    let mut calls = vec![
+        Call::Start { slots: 1, priorities },
+        Call::Create { caller: 32, name: 1, count: 0, attributes: 20 },
+    ];
+    calls.extend((1..=31).map(|task| wait(task, 65537, 33 - task)));
+    made_by(&calls)
+}

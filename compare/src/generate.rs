@@ -1,0 +1,201 @@
+//! Random calls, weighted so that what matters really occurs.
+
+use crate::call::Call;
+use crate::model::{identifier, Class, Machine, Semaphore};
+use crate::rng::Rng;
+use crate::status::*;
+
+/// How one random sequence is drawn.
+pub struct Plan {
+    pub steps: u64,
+    /// How many steps in a hundred edit the tables first.
+    pub edits: usize,
+    slots: u32,
+    priorities: Vec<u32>,
+    weights: [u32; 9],
+    /// The share of obtains with NO_WAIT, in a hundred.
+    polls: usize,
+    timeouts: &'static [u32],
+}
+
+/// Timeouts that matter to the rules, and those of a machine that runs on for long.
+const TIMEOUTS: &[u32] = &[0, 1, 1, 2, 3, 5, 9, 1 << 24, u32::MAX];
+const STEADY_TIMEOUTS: &[u32] = &[5, 20, 100, 500];
+
+/// Weights of the calls, in the order of `KINDS`: mixed, contended, filling, churning.
+const WEIGHTS: [[u32; 9]; 4] = [
+    [1, 12, 4, 6, 36, 22, 3, 8, 8],
+    [1, 4, 2, 1, 55, 18, 2, 7, 10],
+    [1, 70, 3, 2, 10, 6, 1, 4, 3],
+    [1, 35, 4, 35, 12, 5, 2, 3, 3],
+];
+
+const ATTRIBUTES: [u32; 6] = [0, 4, 16, 20, 32, 36];
+const WRONG_ATTRIBUTES: [u32; 11] = [1, 2, 3, 8, 5, 48, 52, 64, 128, 0x104, u32::MAX];
+
+impl Plan {
+    pub fn draw(rng: &mut Rng) -> Self {
+        let any = rng.between(1, 32);
+        let tasks = rng.pick(&[1, 2, 3, 4, 8, 32, 32, any]) as usize;
+        let any = rng.between(1, 64);
+        let slots = rng.pick(&[1, 2, 3, 4, 8, 64, 64, any]);
+        let spread = rng.pick(&[1, 2, 3, 3, 255]);
+        Plan {
+            steps: 400,
+            edits: rng.pick(&[0, 2, 5]),
+            slots,
+            priorities: (0..tasks).map(|_| rng.between(1, spread)).collect(),
+            weights: rng.pick(&WEIGHTS),
+            polls: rng.pick(&[5, 20]),
+            timeouts: TIMEOUTS,
+        }
+    }
+
+    /// A sequence that no wait for ever brings to a halt, with weights in the order of `KINDS`.
+    pub fn steady(slots: u32, priorities: Vec<u32>, weights: [u32; 9]) -> Self {
+        Plan { steps: 0, edits: 0, slots, priorities, weights, polls: 10, timeouts: STEADY_TIMEOUTS }
+    }
+
+    /// The next call of the sequence.
+    pub fn draw_call(&self, rng: &mut Rng, machine: &Machine) -> Call {
+        if machine.tasks.is_empty() && rng.chance(70) {
+            return self.draw_start(rng);
+        }
+        let kind = rng.weighted(&self.weights);
+        self.draw_kind(rng, machine, kind)
+    }
+
+    /// A call of the kind at this place in `KINDS`.
+    pub fn draw_kind(&self, rng: &mut Rng, machine: &Machine, kind: usize) -> Call {
+        match kind {
+            0 => self.draw_start(rng),
+            1 => draw_create(rng, machine),
+            2 => Call::Ident { name: draw_name(rng) },
+            3 => Call::Delete { caller: draw_caller(rng, machine, 3), id: draw_id(rng, machine) },
+            4 => self.draw_obtain(rng, machine),
+            5 => draw_release(rng, machine),
+            6 => Call::Flush { caller: draw_caller(rng, machine, 20), id: draw_id(rng, machine) },
+            7 => Call::Tick,
+            _ => Call::Task { task: draw_task(rng, machine) },
+        }
+    }
+
+    fn draw_start(&self, rng: &mut Rng) -> Call {
+        let mut slots = self.slots;
+        let mut priorities = self.priorities.clone();
+        if rng.chance(25) {
+            slots = rng.pick(&[0, 1, 64, 65, 256, u32::MAX]);
+        }
+        if rng.chance(20) {
+            let length = rng.pick(&[0, 1, 31, 32, 33, 64, 255, 300]);
+            priorities = (0..length).map(|_| rng.between(1, 255)).collect();
+        }
+        if rng.chance(20) && !priorities.is_empty() {
+            let place = rng.below(priorities.len());
+            priorities[place] = rng.pick(&[0, 1, 255, 256, 257, 65536, u32::MAX]);
+        }
+        Call::Start { slots, priorities }
+    }
+
+    fn draw_obtain(&self, rng: &mut Rng, machine: &Machine) -> Call {
+        let id = draw_id(rng, machine);
+        let mut caller = draw_caller(rng, machine, 2);
+        let owned = binary_owner(machine, id).filter(|_| rng.chance(30));
+        caller = owned.unwrap_or(caller);
+        let options = match rng.chance(self.polls) {
+            true => rng.pick(&[1, 1, 3, u32::MAX]),
+            false => rng.pick(&[0, 0, 0, 2, 4, u32::MAX - 1]),
+        };
+        let timeout = rng.pick(self.timeouts);
+        Call::Obtain { caller, id, options, timeout }
+    }
+}
+
+fn draw_create(rng: &mut Rng, machine: &Machine) -> Call {
+    let caller = draw_caller(rng, machine, 3);
+    let any = rng.word();
+    let attributes = match rng.below(100) {
+        0 => any,
+        1..8 => rng.pick(&WRONG_ATTRIBUTES),
+        _ => rng.pick(&ATTRIBUTES),
+    };
+    let count = match attributes & (BINARY + SIMPLE_BINARY) {
+        0 => rng.pick(&[0, 0, 1, 2, 3, u32::MAX - 1, u32::MAX, any]),
+        _ => rng.pick(&[0, 0, 0, 1, 1, 1, 2, u32::MAX]),
+    };
+    Call::Create { caller, name: draw_name(rng), count, attributes }
+}
+
+fn draw_release(rng: &mut Rng, machine: &Machine) -> Call {
+    let id = draw_id(rng, machine);
+    let caller = draw_caller(rng, machine, 20);
+    let owner = binary_owner(machine, id).filter(|_| rng.chance(70));
+    Call::Release { caller: owner.unwrap_or(caller), id }
+}
+
+// Few names, so that several slots bear the same.
+fn draw_name(rng: &mut Rng) -> u32 {
+    let any = rng.word();
+    rng.pick(&[1, 2, 3, 4, 5, 6, 7, 8, 9, 10, 1, 2, 3, 4, 5, 6, 0, u32::MAX, any])
+}
+
+/// A caller, an interrupt `interrupts` times in a hundred and mostly a ready task.
+fn draw_caller(rng: &mut Rng, machine: &Machine, interrupts: usize) -> u32 {
+    if rng.chance(interrupts) {
+        return 0;
+    }
+    let tasks = machine.tasks.len() as u32;
+    if rng.chance(6) {
+        let any = rng.word();
+        return rng.pick(&[0, tasks, tasks, tasks + 1, tasks + 1, u32::MAX, any]);
+    }
+    let ready: Vec<u32> = (1..=tasks).filter(|&task| !machine.is_waiting(task)).collect();
+    match ready.is_empty() || rng.chance(5) {
+        true => rng.between(0, tasks),
+        false => rng.pick(&ready),
+    }
+}
+
+fn draw_task(rng: &mut Rng, machine: &Machine) -> u32 {
+    let tasks = machine.tasks.len() as u32;
+    match rng.chance(90) {
+        true => rng.between(0, tasks),
+        false => rng.pick(&[tasks + 1, 32, 33, 64, u32::MAX]),
+    }
+}
+
+/// An identifier, mostly of a live semaphore.
+fn draw_id(rng: &mut Rng, machine: &Machine) -> u32 {
+    let is_live = |index: &usize| machine.slots[*index].live.is_some();
+    let live: Vec<usize> = (0..machine.slots.len()).filter(is_live).collect();
+    if !live.is_empty() && rng.chance(88) {
+        // The first few are drawn more often, so that queues grow.
+        let few = live.len().min(3);
+        let index = if rng.chance(50) { live[rng.below(few)] } else { rng.pick(&live) };
+        return identifier(machine.slots[index].generation, index);
+    }
+    draw_wrong_id(rng, machine)
+}
+
+/// A stale or an invented identifier, though it may happen to be right.
+fn draw_wrong_id(rng: &mut Rng, machine: &Machine) -> u32 {
+    let slots = machine.slots.len();
+    let any = rng.word();
+    if slots == 0 || rng.chance(20) {
+        return rng.pick(&[0, 1, 65536, 65537, u32::MAX, any]);
+    }
+    let index = rng.below(slots);
+    let generation = machine.slots[index].generation;
+    let right = identifier(generation, index);
+    let past_last = identifier(1, slots);
+    let stale = right.wrapping_sub(65536);
+    let other_slot = (generation << 16) | rng.pick(&[0, slots as u32 + 1, 255, 256, 257, 65535]);
+    rng.pick(&[right, stale, stale, right.wrapping_add(65536), past_last, other_slot])
+}
+
+/// The owner of the binary semaphore with this identifier, if that task is ready.
+fn binary_owner(machine: &Machine, id: u32) -> Option<u32> {
+    let live: &Semaphore = machine.slots[machine.find(id)?].live.as_ref()?;
+    let ready = live.class == Class::Binary && live.owner != 0 && !machine.is_waiting(live.owner);
+    ready.then_some(live.owner)
+}

@@ -1,0 +1,337 @@
+//! The eight calls in place on the lent bytes, without the test for 25.
+
+use crate::call::Answer;
+use crate::layout::WORDS;
+use crate::status::*;
+
+/// The lent bytes as words, high byte first.
+pub type Words = [[u8; 4]; WORDS];
+
+/// The lent bytes as words, if they have the layout's length.
+pub fn words(bytes: &[u8]) -> Option<&Words> {
+    let (words, rest) = bytes.as_chunks::<4>();
+    if rest.is_empty() {
+        words.try_into().ok()
+    } else {
+        None
+    }
+}
+
+/// The same, to be written.
+pub fn words_mut(bytes: &mut [u8]) -> Option<&mut Words> {
+    let (words, rest) = bytes.as_chunks_mut::<4>();
+    if rest.is_empty() {
+        words.try_into().ok()
+    } else {
+        None
+    }
+}
+
+const TASKS: usize = 0;
+const SLOTS: usize = 1;
+
+// Words of a task.
+const PRIORITY_OF: usize = 0;
+const ANSWER: usize = 1;
+const WAITS_ON: usize = 2;
+const TICKS: usize = 3;
+
+// Words of a slot.
+const GENERATION: usize = 0;
+const LIVE: usize = 1;
+const NAME: usize = 2;
+const ATTRIBUTES: usize = 3;
+const COUNT: usize = 4;
+const OWNER: usize = 5;
+const NEST: usize = 6;
+const QUEUED: usize = 7;
+const QUEUE: usize = 8;
+
+fn get(words: &Words, at: usize) -> u32 {
+    u32::from_be_bytes(words[at])
+}
+
+fn set(words: &mut Words, at: usize, number: u32) {
+    words[at] = number.to_be_bytes();
+}
+
+/// The first word of task `number`, which is at least 1.
+fn task(number: u32) -> usize {
+    2 + (number as usize - 1) * 4
+}
+
+/// The first word of the slot at `index`, from 0.
+fn slot(index: usize) -> usize {
+    130 + index * 40
+}
+
+/// The most urgent ready task, the lowest number among equals, or 0.
+pub fn next_task(words: &Words) -> u32 {
+    let (mut best, mut chosen) = (u32::MAX, 0);
+    for number in 1..=get(words, TASKS) {
+        let at = task(number);
+        let priority = get(words, at + PRIORITY_OF);
+        if get(words, at + ANSWER) != WAITING && priority < best {
+            (best, chosen) = (priority, number);
+        }
+    }
+    chosen
+}
+
+fn answer(words: &Words, status: u32, value: u32) -> Answer {
+    Answer::new(status, value, next_task(words))
+}
+
+fn refuse_caller(words: &Words, caller: u32, interrupt_may: bool) -> Option<u32> {
+    if caller == 0 {
+        return if interrupt_may { None } else { Some(CALLED_FROM_ISR) };
+    }
+    if caller > get(words, TASKS) {
+        return Some(INVALID_ID);
+    }
+    (get(words, task(caller) + ANSWER) == WAITING).then_some(INCORRECT_STATE)
+}
+
+/// The first word of the slot whose live semaphore has this identifier.
+fn find(words: &Words, id: u32) -> Option<usize> {
+    let number = id & 0xFFFF;
+    if number == 0 || number > get(words, SLOTS) {
+        return None;
+    }
+    let at = slot(number as usize - 1);
+    (get(words, at + LIVE) == 1 && get(words, at + GENERATION) == id >> 16).then_some(at)
+}
+
+/// A caller that passes and the slot it names, or the refusal.
+fn enter(words: &Words, caller: u32, id: u32, interrupt_may: bool) -> Result<usize, u32> {
+    match refuse_caller(words, caller, interrupt_may) {
+        Some(refusal) => Err(refusal),
+        None => find(words, id).ok_or(INVALID_ID),
+    }
+}
+
+fn wake(words: &mut Words, number: u32, ending: u32) {
+    let at = task(number);
+    set(words, at + ANSWER, ending);
+    set(words, at + WAITS_ON, 0);
+    set(words, at + TICKS, 0);
+}
+
+fn wake_queue(words: &mut Words, at: usize, ending: u32) {
+    for place in 0..get(words, at + QUEUED) as usize {
+        let number = get(words, at + QUEUE + place);
+        wake(words, number, ending);
+        set(words, at + QUEUE + place, 0);
+    }
+    set(words, at + QUEUED, 0);
+}
+
+/// Takes the task at `place` out of the queue and closes the gap.
+fn leave_queue(words: &mut Words, at: usize, place: usize) {
+    let length = get(words, at + QUEUED) as usize;
+    let queue = at + QUEUE;
+    words.copy_within(queue + place + 1..queue + length, queue + place);
+    set(words, queue + length - 1, 0);
+    set(words, at + QUEUED, length as u32 - 1);
+}
+
+fn join_queue(words: &mut Words, at: usize, caller: u32) {
+    let length = get(words, at + QUEUED) as usize;
+    let queue = at + QUEUE;
+    let mut place = length;
+    if get(words, at + ATTRIBUTES) & PRIORITY != 0 {
+        let priority = get(words, task(caller) + PRIORITY_OF);
+        let behind =
+            |&place: &usize| get(words, task(get(words, queue + place)) + PRIORITY_OF) > priority;
+        place = (0..length).find(behind).unwrap_or(length);
+    }
+    words.copy_within(queue + place..queue + length, queue + place + 1);
+    set(words, queue + place, caller);
+    set(words, at + QUEUED, length as u32 + 1);
+}
+
+pub fn start(words: &mut Words, slots: u32, priorities: &[u32]) -> Answer {
+    if get(words, TASKS) != 0 {
+        return answer(words, INCORRECT_STATE, 0);
+    }
+    let count = priorities.len();
+    if count == 0 || count > MOST_TASKS || slots == 0 || slots > MOST_SLOTS as u32 {
+        return answer(words, INVALID_NUMBER, 0);
+    }
+    if priorities.iter().any(|&priority| priority == 0 || priority > LEAST_URGENT) {
+        return answer(words, INVALID_PRIORITY, 0);
+    }
+    set(words, TASKS, count as u32);
+    set(words, SLOTS, slots);
+    for (number, &priority) in (1..).zip(priorities) {
+        set(words, task(number) + PRIORITY_OF, priority);
+    }
+    answer(words, SUCCESSFUL, 0)
+}
+
+fn refuse_new(name: u32, count: u32, attributes: u32) -> Option<u32> {
+    if name == 0 {
+        return Some(INVALID_NAME);
+    }
+    if !matches!(attributes, 0 | 4 | 16 | 20 | 32 | 36) {
+        return Some(NOT_DEFINED);
+    }
+    (attributes > PRIORITY && count > 1).then_some(INVALID_NUMBER)
+}
+
+pub fn create(words: &mut Words, caller: u32, name: u32, count: u32, attributes: u32) -> Answer {
+    let refused = refuse_caller(words, caller, false).or_else(|| refuse_new(name, count, attributes));
+    if let Some(refusal) = refused {
+        return answer(words, refusal, 0);
+    }
+    let usable = |&index: &usize| {
+        get(words, slot(index) + LIVE) == 0 && get(words, slot(index) + GENERATION) < LAST_GENERATION
+    };
+    let Some(index) = (0..get(words, SLOTS) as usize).find(usable) else {
+        return answer(words, TOO_MANY, 0);
+    };
+    let at = slot(index);
+    let generation = get(words, at + GENERATION) + 1;
+    set(words, at + GENERATION, generation);
+    set(words, at + LIVE, 1);
+    set(words, at + NAME, name);
+    set(words, at + ATTRIBUTES, attributes);
+    set(words, at + COUNT, count);
+    if attributes & BINARY != 0 && count == 0 {
+        set(words, at + OWNER, caller);
+        set(words, at + NEST, 1);
+    }
+    answer(words, SUCCESSFUL, generation << 16 | (index as u32 + 1))
+}
+
+pub fn ident(words: &Words, name: u32) -> Answer {
+    // A free slot's name is 0, so with another name only live slots match.
+    let named = |&index: &usize| get(words, slot(index) + NAME) == name;
+    match (0..get(words, SLOTS) as usize).find(named) {
+        Some(index) if name != 0 => {
+            let generation = get(words, slot(index) + GENERATION);
+            answer(words, SUCCESSFUL, generation << 16 | (index as u32 + 1))
+        }
+        _ => answer(words, INVALID_NAME, 0),
+    }
+}
+
+pub fn delete(words: &mut Words, caller: u32, id: u32) -> Answer {
+    let at = match enter(words, caller, id, false) {
+        Ok(at) => at,
+        Err(refusal) => return answer(words, refusal, 0),
+    };
+    if get(words, at + OWNER) != 0 {
+        return answer(words, RESOURCE_IN_USE, 0);
+    }
+    wake_queue(words, at, OBJECT_WAS_DELETED);
+    words[at + LIVE..at + QUEUED].fill([0; 4]);
+    answer(words, SUCCESSFUL, 0)
+}
+
+pub fn obtain(words: &mut Words, caller: u32, id: u32, options: u32, timeout: u32) -> Answer {
+    let at = match enter(words, caller, id, false) {
+        Ok(at) => at,
+        Err(refusal) => return answer(words, refusal, 0),
+    };
+    let count = get(words, at + COUNT);
+    if count > 0 {
+        set(words, at + COUNT, count - 1);
+        if get(words, at + ATTRIBUTES) & BINARY != 0 {
+            set(words, at + OWNER, caller);
+            set(words, at + NEST, 1);
+        }
+        return answer(words, SUCCESSFUL, 0);
+    }
+    // Only a binary semaphore has an owner.
+    if get(words, at + OWNER) == caller {
+        let nest = get(words, at + NEST);
+        if nest == u32::MAX {
+            return answer(words, UNSATISFIED, 0);
+        }
+        set(words, at + NEST, nest + 1);
+        return answer(words, SUCCESSFUL, 0);
+    }
+    if options & NO_WAIT != 0 {
+        return answer(words, UNSATISFIED, 0);
+    }
+    join_queue(words, at, caller);
+    set(words, task(caller) + ANSWER, WAITING);
+    set(words, task(caller) + WAITS_ON, id);
+    set(words, task(caller) + TICKS, timeout);
+    answer(words, WAITING, 0)
+}
+
+pub fn release(words: &mut Words, caller: u32, id: u32) -> Answer {
+    let at = match enter(words, caller, id, true) {
+        Ok(at) => at,
+        Err(refusal) => return answer(words, refusal, 0),
+    };
+    let attributes = get(words, at + ATTRIBUTES);
+    let binary = attributes & BINARY != 0;
+    if binary && (caller == 0 || get(words, at + OWNER) != caller) {
+        return answer(words, NOT_OWNER_OF_RESOURCE, 0);
+    }
+    let nest = get(words, at + NEST);
+    if nest > 1 {
+        set(words, at + NEST, nest - 1);
+        return answer(words, SUCCESSFUL, 0);
+    }
+    if get(words, at + QUEUED) > 0 {
+        let first = get(words, at + QUEUE);
+        leave_queue(words, at, 0);
+        wake(words, first, SUCCESSFUL);
+        if binary {
+            set(words, at + OWNER, first);
+        }
+        return answer(words, SUCCESSFUL, 0);
+    }
+    let count = get(words, at + COUNT);
+    let most = if attributes & SIMPLE_BINARY != 0 { 1 } else { u32::MAX };
+    if count == most {
+        return answer(words, UNSATISFIED, 0);
+    }
+    set(words, at + COUNT, count + 1);
+    set(words, at + OWNER, 0);
+    set(words, at + NEST, 0);
+    answer(words, SUCCESSFUL, 0)
+}
+
+pub fn flush(words: &mut Words, caller: u32, id: u32) -> Answer {
+    match enter(words, caller, id, true) {
+        Ok(at) => {
+            wake_queue(words, at, UNSATISFIED);
+            answer(words, SUCCESSFUL, 0)
+        }
+        Err(refusal) => answer(words, refusal, 0),
+    }
+}
+
+pub fn tick(words: &mut Words) -> Answer {
+    for number in 1..=get(words, TASKS) {
+        let at = task(number);
+        match get(words, at + TICKS) {
+            0 => {}
+            1 => time_out(words, number),
+            ticks => set(words, at + TICKS, ticks - 1),
+        }
+    }
+    answer(words, SUCCESSFUL, 0)
+}
+
+fn time_out(words: &mut Words, number: u32) {
+    let waited_on = (get(words, task(number) + WAITS_ON) & 0xFFFF) as usize;
+    let at = slot(waited_on - 1);
+    let stands = |&place: &usize| get(words, at + QUEUE + place) == number;
+    if let Some(place) = (0..get(words, at + QUEUED) as usize).find(stands) {
+        leave_queue(words, at, place);
+    }
+    wake(words, number, TIMEOUT);
+}
+
+pub fn task_answer(words: &Words, number: u32) -> Answer {
+    if number == 0 || number > get(words, TASKS) {
+        return answer(words, INVALID_ID, 0);
+    }
+    answer(words, SUCCESSFUL, get(words, task(number) + ANSWER))
+}

@@ -1,0 +1,162 @@
+//! The test for 25 in place on the lent bytes, and the calls behind it.
+
+use crate::call::{Answer, Call, Manager};
+use crate::inplace::{self, words, words_mut, Words};
+use crate::status::*;
+
+/// Whether the lent bytes are tables that agree.
+pub fn agrees(bytes: &[u8]) -> bool {
+    words(bytes).is_some_and(words_agree)
+}
+
+fn words_agree(words: &Words) -> bool {
+    let (tasks, slots) = (get(words, 0), get(words, 1));
+    if tasks == 0 {
+        return is_zero(&words[1..]);
+    }
+    if tasks > MOST_TASKS as u32 || slots == 0 || slots > MOST_SLOTS as u32 {
+        return false;
+    }
+    let Some(waiting) = waiting_tasks(words, tasks) else { return false };
+    let (task_words, slot_words) = (&words[2..130], &words[130..]);
+    let mut queued = 0;
+    for (index, slot) in slot_words.chunks_exact(40).take(slots as usize).enumerate() {
+        match queued_tasks(task_words, tasks, index, slot) {
+            Some(here) if here & queued == 0 => queued |= here,
+            _ => return false,
+        }
+    }
+    queued == waiting
+        && is_zero(&task_words[tasks as usize * 4..])
+        && is_zero(&slot_words[slots as usize * 40..])
+}
+
+fn get(words: &[[u8; 4]], at: usize) -> u32 {
+    u32::from_be_bytes(words[at])
+}
+
+// All bytes into one, without a branch for each.
+fn is_zero(words: &[[u8; 4]]) -> bool {
+    words.as_flattened().iter().fold(0, |seen, byte| seen | byte) == 0
+}
+
+/// The waiting tasks as bits, or nothing if a task is outside its limits.
+fn waiting_tasks(words: &Words, tasks: u32) -> Option<u32> {
+    let mut waiting = 0;
+    for (number, task) in words[2..130].chunks_exact(4).take(tasks as usize).enumerate() {
+        if !(MOST_URGENT..=LEAST_URGENT).contains(&get(task, 0)) {
+            return None;
+        }
+        match get(task, 1) {
+            WAITING => waiting |= 1 << number,
+            SUCCESSFUL | TIMEOUT | OBJECT_WAS_DELETED | UNSATISFIED if is_zero(&task[2..]) => {}
+            _ => return None,
+        }
+    }
+    Some(waiting)
+}
+
+/// The tasks queued at a slot as bits, or nothing if the slot breaks a rule.
+fn queued_tasks(task_words: &[[u8; 4]], tasks: u32, index: usize, slot: &[[u8; 4]]) -> Option<u32> {
+    let (generation, live) = (get(slot, 0), get(slot, 1));
+    if generation > LAST_GENERATION || live > 1 {
+        return None;
+    }
+    if live == 0 {
+        return is_zero(&slot[2..]).then_some(0);
+    }
+    let length = get(slot, 7) as usize;
+    if generation == 0 || get(slot, 2) == 0 || length > MOST_TASKS || !is_zero(&slot[8 + length..]) {
+        return None;
+    }
+    let id = generation << 16 | (index as u32 + 1);
+    let attributes = get(slot, 3);
+    let queued = waiters_on(task_words, tasks, id, attributes, &slot[8..8 + length])?;
+    let state = [get(slot, 4), get(slot, 5), get(slot, 6)];
+    holds_together(tasks, attributes, state, queued).then_some(queued)
+}
+
+/// The tasks of one queue as bits, each of which waits on `id` and stands there once.
+fn waiters_on(
+    task_words: &[[u8; 4]],
+    tasks: u32,
+    id: u32,
+    attributes: u32,
+    queue: &[[u8; 4]],
+) -> Option<u32> {
+    let (mut queued, mut last) = (0u32, 0);
+    for entry in queue {
+        let number = u32::from_be_bytes(*entry);
+        if number == 0 || number > tasks {
+            return None;
+        }
+        let task = &task_words[(number as usize - 1) * 4..][..4];
+        let bit = 1 << (number - 1);
+        let priority = get(task, 0);
+        let in_order = attributes & PRIORITY == 0 || last <= priority;
+        if queued & bit != 0 || get(task, 1) != WAITING || get(task, 2) != id || !in_order {
+            return None;
+        }
+        queued |= bit;
+        last = priority;
+    }
+    Some(queued)
+}
+
+fn holds_together(tasks: u32, attributes: u32, state: [u32; 3], queued: u32) -> bool {
+    let [count, owner, nest] = state;
+    let unowned = owner == 0 && nest == 0;
+    let queue_allows = queued == 0 || count == 0;
+    queue_allows
+        && match attributes {
+            0 | 4 => unowned,
+            32 | 36 => unowned && count <= 1,
+            16 | 20 if count == 1 => unowned,
+            16 | 20 => {
+                let owner_is_task = owner >= 1 && owner <= tasks;
+                count == 0 && owner_is_task && queued & (1 << (owner - 1)) == 0 && nest >= 1
+            }
+            _ => false,
+        }
+}
+
+/// One call without the test, on words that agree.
+pub fn serve(words: &mut Words, call: &Call) -> Answer {
+    match *call {
+        Call::Start { slots, ref priorities } => inplace::start(words, slots, priorities),
+        Call::Create { caller, name, count, attributes } => {
+            inplace::create(words, caller, name, count, attributes)
+        }
+        Call::Ident { name } => inplace::ident(words, name),
+        Call::Delete { caller, id } => inplace::delete(words, caller, id),
+        Call::Obtain { caller, id, options, timeout } => {
+            inplace::obtain(words, caller, id, options, timeout)
+        }
+        Call::Release { caller, id } => inplace::release(words, caller, id),
+        Call::Flush { caller, id } => inplace::flush(words, caller, id),
+        Call::Tick => inplace::tick(words),
+        Call::Task { task } => inplace::task_answer(words, task),
+    }
+}
+
+/// The in-place variant behind its test for 25.
+pub struct Tested;
+
+impl Manager for Tested {
+    fn call(&mut self, tables: &mut [u8], call: &Call) -> Answer {
+        match words_mut(tables) {
+            Some(words) if words_agree(words) => serve(words, call),
+            _ => Answer::DISAGREE,
+        }
+    }
+}
+
+/// The in-place variant alone; the lent bytes have to agree.
+pub struct Untested;
+
+impl Manager for Untested {
+    fn call(&mut self, tables: &mut [u8], call: &Call) -> Answer {
+        let words = words_mut(tables).expect("the lent bytes have the layout's length");
+        serve(words, call)
+    }
+}

@@ -1,0 +1,166 @@
+//! The byte layout: words of four bytes, high byte first.
+
+use crate::call::{Answer, Call, Manager};
+use crate::model::{split_attributes, Machine, Semaphore, Slot, State, Task};
+use crate::status::*;
+
+/// Words of the tables: N, S, 32 tasks of four, 64 slots of forty.
+pub const WORDS: usize = FIRST_SLOT + MOST_SLOTS * SLOT_WORDS;
+/// Bytes that the caller lends.
+pub const LENGTH: usize = WORDS * 4;
+
+const FIRST_TASK: usize = 2;
+const TASK_WORDS: usize = 4;
+const FIRST_SLOT: usize = FIRST_TASK + MOST_TASKS * TASK_WORDS;
+const SLOT_WORDS: usize = 40;
+const QUEUE: usize = 8;
+
+const TASK_FIELDS: [&str; TASK_WORDS] = ["priority", "answer", "identifier waited on", "ticks left"];
+const SLOT_FIELDS: [&str; QUEUE] =
+    ["generation", "live", "name", "attributes", "count", "owner", "nest", "queue length"];
+
+/// The word at `index` of bytes that reach that far.
+pub fn word(bytes: &[u8], index: usize) -> u32 {
+    let four = &bytes[index * 4..index * 4 + 4];
+    four.iter().fold(0, |number, &byte| number << 8 | u32::from(byte))
+}
+
+pub fn set_word(bytes: &mut [u8], index: usize, number: u32) {
+    bytes[index * 4..index * 4 + 4].copy_from_slice(&number.to_be_bytes());
+}
+
+/// The index of the first of the words of task `number`, from 1.
+pub fn task_at(number: u32) -> usize {
+    FIRST_TASK + (number as usize - 1) * TASK_WORDS
+}
+
+/// The index of the first of the words of the slot at `index`, from 0.
+pub fn slot_at(index: usize) -> usize {
+    FIRST_SLOT + index * SLOT_WORDS
+}
+
+/// What the word at `index` means; tasks and slots are numbered from 1.
+pub fn word_name(index: usize) -> String {
+    match index {
+        0 => "N".into(),
+        1 => "S".into(),
+        _ if index < FIRST_SLOT => {
+            let place = index - FIRST_TASK;
+            format!("task {} {}", place / TASK_WORDS + 1, TASK_FIELDS[place % TASK_WORDS])
+        }
+        _ => {
+            let place = index - FIRST_SLOT;
+            let (slot, field) = (place / SLOT_WORDS + 1, place % SLOT_WORDS);
+            match SLOT_FIELDS.get(field) {
+                Some(name) => format!("slot {slot} {name}"),
+                None => format!("slot {slot} queue place {}", field - QUEUE + 1),
+            }
+        }
+    }
+}
+
+/// The machine's tables, as bytes.
+pub fn write(machine: &Machine) -> Vec<u8> {
+    let mut bytes = vec![0; LENGTH];
+    write_into(machine, &mut bytes);
+    bytes
+}
+
+/// Writes the machine's tables over `LENGTH` bytes.
+pub fn write_into(machine: &Machine, bytes: &mut [u8]) {
+    bytes.fill(0);
+    set_word(bytes, 0, machine.tasks.len() as u32);
+    set_word(bytes, 1, machine.slots.len() as u32);
+    for (number, task) in (1..).zip(&machine.tasks) {
+        let (answer, id, ticks) = match task.state {
+            State::Ready { answer } => (answer, 0, 0),
+            State::Waiting { id, ticks } => (WAITING, id, ticks),
+        };
+        set_words(bytes, task_at(number), &[task.priority, answer, id, ticks]);
+    }
+    for (index, slot) in machine.slots.iter().enumerate() {
+        let at = slot_at(index);
+        set_word(bytes, at, slot.generation);
+        if let Some(live) = &slot.live {
+            let length = live.queue.len() as u32;
+            let state = [live.count, live.owner, live.nest, length];
+            set_words(bytes, at + 1, &[1, live.name, live.attributes()]);
+            set_words(bytes, at + 4, &state);
+            set_words(bytes, at + QUEUE, &live.queue);
+        }
+    }
+}
+
+fn set_words(bytes: &mut [u8], at: usize, numbers: &[u32]) {
+    for (offset, &number) in numbers.iter().enumerate() {
+        set_word(bytes, at + offset, number);
+    }
+}
+
+/// The machine whose tables these bytes are, or nothing if they do not agree.
+pub fn read(bytes: &[u8]) -> Option<Machine> {
+    if bytes.len() != LENGTH {
+        return None;
+    }
+    let machine = read_shape(bytes)?;
+    // Whatever lies beyond N, S or a queue's length is missing from the machine, so it has to be 0.
+    (machine.agrees() && write(&machine) == bytes).then_some(machine)
+}
+
+fn read_shape(bytes: &[u8]) -> Option<Machine> {
+    let (tasks, slots) = (word(bytes, 0) as usize, word(bytes, 1) as usize);
+    if tasks > MOST_TASKS || slots > MOST_SLOTS {
+        return None;
+    }
+    let tasks = (1..=tasks as u32).map(|number| read_task(bytes, task_at(number))).collect();
+    let slots: Option<Vec<Slot>> = (0..slots).map(|index| read_slot(bytes, slot_at(index))).collect();
+    Some(Machine { tasks, slots: slots? })
+}
+
+fn read_task(bytes: &[u8], at: usize) -> Task {
+    let (priority, answer) = (word(bytes, at), word(bytes, at + 1));
+    let state = if answer == WAITING {
+        State::Waiting { id: word(bytes, at + 2), ticks: word(bytes, at + 3) }
+    } else {
+        State::Ready { answer }
+    };
+    Task { priority, state }
+}
+
+fn read_slot(bytes: &[u8], at: usize) -> Option<Slot> {
+    let generation = word(bytes, at);
+    match word(bytes, at + 1) {
+        0 => Some(Slot { generation, live: None }),
+        1 => Some(Slot { generation, live: Some(read_semaphore(bytes, at)?) }),
+        _ => None,
+    }
+}
+
+fn read_semaphore(bytes: &[u8], at: usize) -> Option<Semaphore> {
+    let (class, order) = split_attributes(word(bytes, at + 3))?;
+    let length = word(bytes, at + 7) as usize;
+    if length > MOST_TASKS {
+        return None;
+    }
+    Some(Semaphore {
+        name: word(bytes, at + 2),
+        class,
+        order,
+        count: word(bytes, at + 4),
+        owner: word(bytes, at + 5),
+        nest: word(bytes, at + 6),
+        queue: (0..length).map(|place| word(bytes, at + QUEUE + place)).collect(),
+    })
+}
+
+/// The model as a manager on lent bytes: reads them, serves, writes them back.
+pub struct Model;
+
+impl Manager for Model {
+    fn call(&mut self, tables: &mut [u8], call: &Call) -> Answer {
+        let Some(mut machine) = read(tables) else { return Answer::DISAGREE };
+        let answer = machine.call(call);
+        write_into(&machine, tables);
+        answer
+    }
+}

@@ -1,0 +1,129 @@
+//! Lent memory with guards around it, and the comparison of one call on it.
+
+use std::fmt;
+
+use crate::call::{Answer, Call, Manager};
+use crate::coverage::Coverage;
+use crate::layout::{word, word_name, LENGTH};
+
+const GUARD: usize = 64;
+const GUARD_BYTE: u8 = 0xA5;
+
+/// Bytes to lend, at any alignment, between guards that no call may touch.
+pub struct Lent {
+    memory: Vec<u8>,
+    first: usize,
+    length: usize,
+}
+
+impl Lent {
+    pub fn new(bytes: &[u8], offset: usize) -> Self {
+        let first = GUARD + offset;
+        let mut memory = vec![GUARD_BYTE; first + bytes.len() + GUARD];
+        memory[first..first + bytes.len()].copy_from_slice(bytes);
+        Lent { memory, first, length: bytes.len() }
+    }
+
+    pub fn bytes(&self) -> &[u8] {
+        &self.memory[self.first..self.first + self.length]
+    }
+
+    pub fn bytes_mut(&mut self) -> &mut [u8] {
+        &mut self.memory[self.first..self.first + self.length]
+    }
+
+    /// Whether nothing around the lent bytes was written.
+    pub fn guards_hold(&self) -> bool {
+        let (before, rest) = self.memory.split_at(self.first);
+        let after = &rest[self.length..];
+        before.iter().chain(after).all(|&byte| byte == GUARD_BYTE)
+    }
+}
+
+/// Where in a comparison a call was made; the seed repeats it.
+#[derive(Clone, Copy, Debug)]
+pub struct Place {
+    pub part: &'static str,
+    pub seed: u64,
+    pub step: u64,
+}
+
+/// The first call on which the subject is not as this project's own code.
+#[derive(Debug)]
+pub struct Difference {
+    pub place: Place,
+    pub call: Call,
+    pub expected: Answer,
+    pub found: Answer,
+    /// What of the memory differs, if anything.
+    pub memory: Option<String>,
+    /// The tables before the call, when they had been damaged.
+    pub damage: Option<String>,
+}
+
+impl fmt::Display for Difference {
+    fn fmt(&self, out: &mut fmt::Formatter) -> fmt::Result {
+        let Place { part, seed, step } = self.place;
+        writeln!(out, "difference in {part}: seed {seed}, step {step}")?;
+        if let Some(damage) = &self.damage {
+            writeln!(out, "  damage:      {damage}")?;
+        }
+        writeln!(out, "  call:        {:?}", self.call)?;
+        let answer = |answer: Answer| format!("{} {} {}", answer.status, answer.value, answer.next);
+        writeln!(out, "  independent: {}", answer(self.expected))?;
+        writeln!(out, "  library:     {}", answer(self.found))?;
+        let memory = self.memory.as_deref().unwrap_or("no byte differs");
+        write!(out, "  tables:      {memory}")
+    }
+}
+
+/// A manager under comparison, and what has been seen of it.
+pub struct Comparison<'a> {
+    pub subject: &'a mut dyn Manager,
+    pub coverage: Coverage,
+    pub calls: u64,
+    /// Says each call before it is made, to find one that does not come back.
+    pub trace: bool,
+}
+
+impl<'a> Comparison<'a> {
+    pub fn new(subject: &'a mut dyn Manager) -> Self {
+        Comparison { subject, coverage: Coverage::default(), calls: 0, trace: false }
+    }
+
+    /// Makes one call of the subject, and compares its answer and every byte.
+    pub fn step(
+        &mut self,
+        place: Place,
+        call: &Call,
+        lent: &mut Lent,
+        expected: Answer,
+        expected_bytes: &[u8],
+    ) -> Result<(), Box<Difference>> {
+        if self.trace {
+            eprintln!("{}, seed {}, step {}: {call:?}", place.part, place.seed, place.step);
+        }
+        let found = self.subject.call(lent.bytes_mut(), call);
+        self.calls += 1;
+        self.coverage.answered(call, expected.status);
+        if found == expected && lent.bytes() == expected_bytes && lent.guards_hold() {
+            return Ok(());
+        }
+        let memory = memory_difference(lent, expected_bytes);
+        let call = call.clone();
+        Err(Box::new(Difference { place, call, expected, found, memory, damage: None }))
+    }
+}
+
+fn memory_difference(lent: &Lent, expected: &[u8]) -> Option<String> {
+    if !lent.guards_hold() {
+        return Some("bytes outside the lent memory were written".into());
+    }
+    let byte = lent.bytes().iter().zip(expected).position(|(found, wanted)| found != wanted)?;
+    if expected.len() != LENGTH {
+        return Some(format!("byte {byte} was written"));
+    }
+    let (found, wanted) = (word(lent.bytes(), byte / 4), word(expected, byte / 4));
+    let name = word_name(byte / 4);
+    Some(format!("word {}, {name}: independent {wanted}, library {found}", byte / 4))
+}

@@ -1,0 +1,340 @@
+//! The semaphore manager of document 01 over structs of its own.
+
+use crate::call::{Answer, Call};
+use crate::status::*;
+
+/// A machine; without tasks it is one not yet started.
+#[derive(Clone, Debug, Default, PartialEq, Eq)]
+pub struct Machine {
+    pub tasks: Vec<Task>,
+    pub slots: Vec<Slot>,
+}
+
+#[derive(Clone, Debug, PartialEq, Eq)]
+pub struct Task {
+    pub priority: u32,
+    pub state: State,
+}
+
+/// `Ready` keeps how the latest wait ended; `Waiting` with 0 ticks is for ever.
+#[derive(Clone, Copy, Debug, PartialEq, Eq)]
+pub enum State {
+    Ready { answer: u32 },
+    Waiting { id: u32, ticks: u32 },
+}
+
+#[derive(Clone, Debug, Default, PartialEq, Eq)]
+pub struct Slot {
+    pub generation: u32,
+    pub live: Option<Semaphore>,
+}
+
+#[derive(Clone, Copy, Debug, PartialEq, Eq)]
+pub enum Class {
+    Counting,
+    Binary,
+    SimpleBinary,
+}
+
+#[derive(Clone, Copy, Debug, PartialEq, Eq)]
+pub enum Order {
+    Fifo,
+    Priority,
+}
+
+/// A live semaphore; its queue holds task numbers, the first to be served first.
+#[derive(Clone, Debug, PartialEq, Eq)]
+pub struct Semaphore {
+    pub name: u32,
+    pub class: Class,
+    pub order: Order,
+    pub count: u32,
+    pub owner: u32,
+    pub nest: u32,
+    pub queue: Vec<u32>,
+}
+
+/// A call that was not refused: done with its value, or a wait that began.
+enum Outcome {
+    Done(u32),
+    Waits,
+}
+
+type Served = Result<Outcome, u32>;
+
+const DONE: Served = Ok(Outcome::Done(0));
+
+/// Class and order, for the six sums of attributes that create allows.
+pub fn split_attributes(attributes: u32) -> Option<(Class, Order)> {
+    match attributes {
+        0 => Some((Class::Counting, Order::Fifo)),
+        4 => Some((Class::Counting, Order::Priority)),
+        16 => Some((Class::Binary, Order::Fifo)),
+        20 => Some((Class::Binary, Order::Priority)),
+        32 => Some((Class::SimpleBinary, Order::Fifo)),
+        36 => Some((Class::SimpleBinary, Order::Priority)),
+        _ => None,
+    }
+}
+
+/// The identifier of the slot at `index`, whose number is one more.
+pub fn identifier(generation: u32, index: usize) -> u32 {
+    generation * 65536 + index as u32 + 1
+}
+
+impl Semaphore {
+    /// The sum of attributes it was created with.
+    pub fn attributes(&self) -> u32 {
+        let class = match self.class {
+            Class::Counting => 0,
+            Class::Binary => BINARY,
+            Class::SimpleBinary => SIMPLE_BINARY,
+        };
+        let order = match self.order {
+            Order::Fifo => 0,
+            Order::Priority => PRIORITY,
+        };
+        class + order
+    }
+
+    /// The count at which a release has nothing left to give.
+    fn most(&self) -> u32 {
+        if self.class == Class::Counting {
+            u32::MAX
+        } else {
+            1
+        }
+    }
+}
+
+impl Machine {
+    /// Serves one call on tables that agree.
+    pub fn call(&mut self, call: &Call) -> Answer {
+        let served = match *call {
+            Call::Start { slots, ref priorities } => self.start(slots, priorities),
+            Call::Create { caller, name, count, attributes } => {
+                self.create(caller, name, count, attributes)
+            }
+            Call::Ident { name } => self.ident(name),
+            Call::Delete { caller, id } => self.delete(caller, id),
+            Call::Obtain { caller, id, options, timeout } => self.obtain(caller, id, options, timeout),
+            Call::Release { caller, id } => self.release(caller, id),
+            Call::Flush { caller, id } => self.flush(caller, id),
+            Call::Tick => self.tick(),
+            Call::Task { task } => self.task(task),
+        };
+        let (status, value) = match served {
+            Ok(Outcome::Done(value)) => (SUCCESSFUL, value),
+            Ok(Outcome::Waits) => (WAITING, 0),
+            Err(refusal) => (refusal, 0),
+        };
+        Answer::new(status, value, self.next_task())
+    }
+
+    /// The most urgent ready task, the lowest number among equals, or 0.
+    pub fn next_task(&self) -> u32 {
+        let ready = |task: &&(u32, &Task)| matches!(task.1.state, State::Ready { .. });
+        let numbered: Vec<(u32, &Task)> = (1..).zip(&self.tasks).collect();
+        let chosen = numbered.iter().filter(ready).min_by_key(|(number, task)| (task.priority, *number));
+        chosen.map_or(0, |(number, _)| *number)
+    }
+
+    pub fn is_waiting(&self, task: u32) -> bool {
+        matches!(self.tasks[task as usize - 1].state, State::Waiting { .. })
+    }
+
+    /// The index of the slot whose live semaphore has this identifier.
+    pub fn find(&self, id: u32) -> Option<usize> {
+        let (generation, number) = (id / 65536, (id % 65536) as usize);
+        let index = number.checked_sub(1)?;
+        let slot = self.slots.get(index)?;
+        (slot.live.is_some() && slot.generation == generation).then_some(index)
+    }
+
+    fn live(&mut self, id: u32) -> Result<(usize, &mut Semaphore), u32> {
+        let index = self.find(id).ok_or(INVALID_ID)?;
+        let semaphore = self.slots[index].live.as_mut().ok_or(INVALID_ID)?;
+        Ok((index, semaphore))
+    }
+
+    /// The checks of a caller that may be an interrupt.
+    fn check_caller(&self, caller: u32) -> Result<(), u32> {
+        if caller as usize > self.tasks.len() {
+            return Err(INVALID_ID);
+        }
+        if caller != 0 && self.is_waiting(caller) {
+            return Err(INCORRECT_STATE);
+        }
+        Ok(())
+    }
+
+    /// The checks of a caller that has to be a task.
+    fn check_task_caller(&self, caller: u32) -> Result<(), u32> {
+        if caller == 0 {
+            return Err(CALLED_FROM_ISR);
+        }
+        self.check_caller(caller)
+    }
+
+    fn start(&mut self, slots: u32, priorities: &[u32]) -> Served {
+        if !self.tasks.is_empty() {
+            return Err(INCORRECT_STATE);
+        }
+        let counts_fit =
+            (1..=MOST_TASKS).contains(&priorities.len()) && (1..=MOST_SLOTS as u32).contains(&slots);
+        if !counts_fit {
+            return Err(INVALID_NUMBER);
+        }
+        if priorities.iter().any(|priority| !(MOST_URGENT..=LEAST_URGENT).contains(priority)) {
+            return Err(INVALID_PRIORITY);
+        }
+        let ready = State::Ready { answer: SUCCESSFUL };
+        self.tasks = priorities.iter().map(|&priority| Task { priority, state: ready }).collect();
+        self.slots = vec![Slot::default(); slots as usize];
+        DONE
+    }
+
+    fn create(&mut self, caller: u32, name: u32, count: u32, attributes: u32) -> Served {
+        self.check_task_caller(caller)?;
+        if name == 0 {
+            return Err(INVALID_NAME);
+        }
+        let (class, order) = split_attributes(attributes).ok_or(NOT_DEFINED)?;
+        if class != Class::Counting && count > 1 {
+            return Err(INVALID_NUMBER);
+        }
+        let usable = |slot: &Slot| slot.live.is_none() && slot.generation < LAST_GENERATION;
+        let index = self.slots.iter().position(usable).ok_or(TOO_MANY)?;
+        let held = class == Class::Binary && count == 0;
+        let (owner, nest) = if held { (caller, 1) } else { (0, 0) };
+        let slot = &mut self.slots[index];
+        slot.generation += 1;
+        slot.live = Some(Semaphore { name, class, order, count, owner, nest, queue: Vec::new() });
+        Ok(Outcome::Done(identifier(slot.generation, index)))
+    }
+
+    fn ident(&self, name: u32) -> Served {
+        let named = |slot: &Slot| slot.live.as_ref().is_some_and(|live| live.name == name);
+        // A live semaphore's name is never 0, but the paper names that refusal by itself.
+        if name == 0 {
+            return Err(INVALID_NAME);
+        }
+        let index = self.slots.iter().position(named).ok_or(INVALID_NAME)?;
+        Ok(Outcome::Done(identifier(self.slots[index].generation, index)))
+    }
+
+    fn delete(&mut self, caller: u32, id: u32) -> Served {
+        self.check_task_caller(caller)?;
+        let (index, semaphore) = self.live(id)?;
+        if semaphore.owner != 0 {
+            return Err(RESOURCE_IN_USE);
+        }
+        let woken = std::mem::take(&mut semaphore.queue);
+        self.slots[index].live = None;
+        self.wake_all(&woken, OBJECT_WAS_DELETED);
+        DONE
+    }
+
+    fn obtain(&mut self, caller: u32, id: u32, options: u32, timeout: u32) -> Served {
+        self.check_task_caller(caller)?;
+        let (index, semaphore) = self.live(id)?;
+        let binary = semaphore.class == Class::Binary;
+        if semaphore.count > 0 {
+            semaphore.count -= 1;
+            if binary {
+                (semaphore.owner, semaphore.nest) = (caller, 1);
+            }
+            return DONE;
+        }
+        if binary && semaphore.owner == caller {
+            semaphore.nest = semaphore.nest.checked_add(1).ok_or(UNSATISFIED)?;
+            return DONE;
+        }
+        if options & NO_WAIT != 0 {
+            return Err(UNSATISFIED);
+        }
+        self.join_queue(index, caller);
+        self.tasks[caller as usize - 1].state = State::Waiting { id, ticks: timeout };
+        Ok(Outcome::Waits)
+    }
+
+    fn join_queue(&mut self, index: usize, caller: u32) {
+        let tasks = &self.tasks;
+        let urgency = |task: u32| tasks[task as usize - 1].priority;
+        let Some(semaphore) = self.slots[index].live.as_mut() else { return };
+        let place = match semaphore.order {
+            Order::Fifo => semaphore.queue.len(),
+            Order::Priority => {
+                let less_urgent = |&other: &u32| urgency(other) > urgency(caller);
+                semaphore.queue.iter().position(less_urgent).unwrap_or(semaphore.queue.len())
+            }
+        };
+        semaphore.queue.insert(place, caller);
+    }
+
+    fn release(&mut self, caller: u32, id: u32) -> Served {
+        self.check_caller(caller)?;
+        let (_, semaphore) = self.live(id)?;
+        let binary = semaphore.class == Class::Binary;
+        // Owner 0 is nobody, so an interrupt never matches it.
+        if binary && (caller == 0 || semaphore.owner != caller) {
+            return Err(NOT_OWNER_OF_RESOURCE);
+        }
+        if binary && semaphore.nest > 1 {
+            semaphore.nest -= 1;
+            return DONE;
+        }
+        if semaphore.queue.is_empty() {
+            if semaphore.count == semaphore.most() {
+                return Err(UNSATISFIED);
+            }
+            semaphore.count += 1;
+            (semaphore.owner, semaphore.nest) = (0, 0);
+            return DONE;
+        }
+        let first = semaphore.queue.remove(0);
+        if binary {
+            (semaphore.owner, semaphore.nest) = (first, 1);
+        }
+        self.wake_all(&[first], SUCCESSFUL);
+        DONE
+    }
+
+    fn flush(&mut self, caller: u32, id: u32) -> Served {
+        self.check_caller(caller)?;
+        let woken = std::mem::take(&mut self.live(id)?.1.queue);
+        self.wake_all(&woken, UNSATISFIED);
+        DONE
+    }
+
+    fn tick(&mut self) -> Served {
+        for number in 1..=self.tasks.len() as u32 {
+            let State::Waiting { id, ticks } = self.tasks[number as usize - 1].state else { continue };
+            match ticks {
+                0 => {}
+                1 => {
+                    self.live(id)?.1.queue.retain(|&queued| queued != number);
+                    self.wake_all(&[number], TIMEOUT);
+                }
+                _ => self.tasks[number as usize - 1].state = State::Waiting { id, ticks: ticks - 1 },
+            }
+        }
+        DONE
+    }
+
+    fn task(&self, task: u32) -> Served {
+        if task == 0 || task as usize > self.tasks.len() {
+            return Err(INVALID_ID);
+        }
+        Ok(Outcome::Done(match self.tasks[task as usize - 1].state {
+            State::Ready { answer } => answer,
+            State::Waiting { .. } => WAITING,
+        }))
+    }
+
+    fn wake_all(&mut self, woken: &[u32], answer: u32) {
+        for &task in woken {
+            self.tasks[task as usize - 1].state = State::Ready { answer };
+        }
+    }
+}

@@ -1,0 +1,128 @@
+//! Random damage to agreeing tables, some of which leaves them in agreement.
+
+use crate::layout::{set_word, slot_at, task_at, word, word_name, WORDS};
+use crate::model::{identifier, Machine};
+use crate::rng::Rng;
+
+/// Does one random damage and says which.
+pub fn mutate(rng: &mut Rng, machine: &Machine, bytes: &mut [u8]) -> String {
+    match rng.below(10) {
+        0 => flip_bit(rng, bytes),
+        1 | 2 => set_some_word(rng, machine, bytes),
+        3 => swap_words(rng, machine, bytes),
+        4 => copy_word(rng, machine, bytes),
+        5 => alter_counts(rng, bytes),
+        6 => drop_waiter(rng, machine, bytes),
+        7 => free_slot(rng, machine, bytes),
+        _ => add_waiter(rng, machine, bytes),
+    }
+}
+
+/// The index of a word, mostly of one in use.
+fn draw_word(rng: &mut Rng, machine: &Machine) -> usize {
+    if machine.tasks.is_empty() || rng.chance(10) {
+        return rng.below(WORDS);
+    }
+    if rng.chance(35) {
+        return task_at(rng.between(1, machine.tasks.len() as u32)) + rng.below(4);
+    }
+    let reach = if rng.chance(80) { 12 } else { 40 };
+    slot_at(rng.below(machine.slots.len())) + rng.below(reach)
+}
+
+/// A slot with a live semaphore, if there is one.
+fn draw_live(rng: &mut Rng, machine: &Machine) -> Option<usize> {
+    let is_live = |index: &usize| machine.slots[*index].live.is_some();
+    let live: Vec<usize> = (0..machine.slots.len()).filter(is_live).collect();
+    (!live.is_empty()).then(|| rng.pick(&live))
+}
+
+fn flip_bit(rng: &mut Rng, bytes: &mut [u8]) -> String {
+    let (at, bit) = (rng.below(bytes.len()), rng.below(8));
+    bytes[at] ^= 1 << bit;
+    format!("bit {bit} of byte {at} flipped, in {}", word_name(at / 4))
+}
+
+fn set_some_word(rng: &mut Rng, machine: &Machine, bytes: &mut [u8]) -> String {
+    let at = draw_word(rng, machine);
+    let any = rng.word();
+    let small = rng.between(0, 70);
+    let value = rng.pick(&[0, 1, small, small, 100, 65536, 65537, u32::MAX, any]);
+    set_word(bytes, at, value);
+    format!("{} set to {value}", word_name(at))
+}
+
+fn swap_words(rng: &mut Rng, machine: &Machine, bytes: &mut [u8]) -> String {
+    let first = draw_word(rng, machine);
+    // Neighbours, as in a queue, or the same field of a neighbour.
+    let second = (first + rng.pick(&[1, 1, 2, 4, 40])).min(WORDS - 1);
+    let (one, other) = (word(bytes, first), word(bytes, second));
+    set_word(bytes, first, other);
+    set_word(bytes, second, one);
+    format!("{} and {} swapped", word_name(first), word_name(second))
+}
+
+fn copy_word(rng: &mut Rng, machine: &Machine, bytes: &mut [u8]) -> String {
+    let from = draw_word(rng, machine);
+    let to = (from + rng.pick(&[1, 4, 8, 40, 80])) % WORDS;
+    let value = word(bytes, from);
+    set_word(bytes, to, value);
+    format!("{} copied to {}", word_name(from), word_name(to))
+}
+
+fn alter_counts(rng: &mut Rng, bytes: &mut [u8]) -> String {
+    let at = rng.below(2);
+    let was = word(bytes, at);
+    let value = rng.pick(&[was.wrapping_add(1), was.wrapping_sub(1)]);
+    set_word(bytes, at, value);
+    if at == 0 && rng.chance(50) && (1..=32).contains(&value) {
+        set_word(bytes, task_at(value), 1);
+    }
+    format!("{} set to {value}", word_name(at))
+}
+
+/// Takes the last waiter out of a queue, with or without making the task ready.
+fn drop_waiter(rng: &mut Rng, machine: &Machine, bytes: &mut [u8]) -> String {
+    let Some(index) = draw_live(rng, machine) else { return "nothing".into() };
+    let at = slot_at(index);
+    let length = word(bytes, at + 7);
+    if !(1..=32).contains(&length) {
+        return "nothing".into();
+    }
+    let last = at + 7 + length as usize;
+    let task = word(bytes, last);
+    set_word(bytes, at + 7, length - 1);
+    set_word(bytes, last, 0);
+    let readied = rng.chance(60) && (1..=32).contains(&task);
+    if readied {
+        (1..4).for_each(|field| set_word(bytes, task_at(task) + field, 0));
+    }
+    format!("task {task} out of the queue of slot {}, made ready: {readied}", index + 1)
+}
+
+fn free_slot(rng: &mut Rng, machine: &Machine, bytes: &mut [u8]) -> String {
+    let Some(index) = draw_live(rng, machine) else { return "nothing".into() };
+    let at = slot_at(index);
+    let reach = rng.pick(&[2, 8, 40]);
+    (1..reach).for_each(|field| set_word(bytes, at + field, 0));
+    format!("words 1 to {} of slot {} zeroed", reach - 1, index + 1)
+}
+
+/// Puts a task at the rear of a queue, with or without making it wait there.
+fn add_waiter(rng: &mut Rng, machine: &Machine, bytes: &mut [u8]) -> String {
+    let Some(index) = draw_live(rng, machine) else { return "nothing".into() };
+    let at = slot_at(index);
+    let length = word(bytes, at + 7);
+    if length >= 32 {
+        return "nothing".into();
+    }
+    let task = rng.between(1, machine.tasks.len() as u32);
+    set_word(bytes, at + 7, length + 1);
+    set_word(bytes, at + 8 + length as usize, task);
+    let waits = rng.chance(80);
+    if waits {
+        set_word(bytes, task_at(task) + 1, 100);
+        set_word(bytes, task_at(task) + 2, identifier(word(bytes, at) & 0xFFFF, index));
+    }
+    format!("task {task} put in the queue of slot {}, made to wait: {waits}", index + 1)
+}

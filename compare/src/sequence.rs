@@ -1,0 +1,95 @@
+//! Random sequences of calls, every answer and every byte compared.
+
+use crate::generate::Plan;
+use crate::layout::{self, set_word, slot_at, task_at};
+use crate::lent::{Comparison, Difference, Lent, Place};
+use crate::model::{identifier, Class, Machine, State};
+use crate::rng::Rng;
+use crate::status::*;
+
+/// Runs one sequence; gives back the machine that it ended in.
+pub fn run(comparison: &mut Comparison, seed: u64) -> Result<Machine, Box<Difference>> {
+    let mut rng = Rng::new(seed);
+    let plan = Plan::draw(&mut rng);
+    let mut machine = Machine::default();
+    let mut expected = layout::write(&machine);
+    let mut lent = Lent::new(&expected, rng.below(4));
+    for step in 0..plan.steps {
+        if rng.chance(plan.edits) {
+            edit(&mut rng, &machine, &mut expected);
+            machine = layout::read(&expected).expect("an edit keeps the tables in agreement");
+            lent.bytes_mut().copy_from_slice(&expected);
+        }
+        let call = plan.draw_call(&mut rng, &machine);
+        let before = machine.clone();
+        let answer = machine.call(&call);
+        layout::write_into(&machine, &mut expected);
+        let place = Place { part: "random sequences", seed, step };
+        comparison.step(place, &call, &mut lent, answer, &expected)?;
+        comparison.coverage.saw(&before, &call, answer, &machine);
+    }
+    Ok(machine)
+}
+
+/// Writes numbers near their ends into tables, which still agree afterwards.
+fn edit(rng: &mut Rng, machine: &Machine, bytes: &mut [u8]) {
+    if machine.tasks.is_empty() {
+        return;
+    }
+    let index = rng.below(machine.slots.len());
+    match rng.below(6) {
+        0 => edit_every_semaphore(rng, machine, bytes),
+        1 => edit_semaphore(rng, machine, index, bytes),
+        2 => edit_generation(rng, machine, index, bytes),
+        3 => {
+            // All free slots at once, so that creates soon run out of them.
+            let near_end = rng.between(65533, 65535);
+            for index in (0..machine.slots.len()).filter(|&index| machine.slots[index].live.is_none()) {
+                set_word(bytes, slot_at(index), near_end);
+            }
+        }
+        _ => edit_task(rng, machine, bytes),
+    }
+}
+
+fn edit_every_semaphore(rng: &mut Rng, machine: &Machine, bytes: &mut [u8]) {
+    for index in 0..machine.slots.len() {
+        edit_semaphore(rng, machine, index, bytes);
+    }
+}
+
+/// Nest of an owned binary, or count of a counting semaphore without a queue.
+fn edit_semaphore(rng: &mut Rng, machine: &Machine, index: usize, bytes: &mut [u8]) {
+    let Some(live) = &machine.slots[index].live else { return };
+    let number = rng.pick(&[u32::MAX, u32::MAX, u32::MAX - 1, 1, 2, 1 << 16, 1 << 31]);
+    if live.owner != 0 {
+        set_word(bytes, slot_at(index) + 6, number);
+    } else if live.class == Class::Counting && live.queue.is_empty() {
+        set_word(bytes, slot_at(index) + 4, number);
+    }
+}
+
+/// The generation of one slot, with the identifiers its waiters wait on.
+fn edit_generation(rng: &mut Rng, machine: &Machine, index: usize, bytes: &mut [u8]) {
+    let generation = rng.pick(&[65535, 65534, 65533, 255, 256]);
+    set_word(bytes, slot_at(index), generation);
+    if let Some(live) = &machine.slots[index].live {
+        for &waiter in &live.queue {
+            set_word(bytes, task_at(waiter) + 2, identifier(generation, index));
+        }
+    }
+}
+
+/// Ticks of a waiting task; answer and priority of a ready one.
+fn edit_task(rng: &mut Rng, machine: &Machine, bytes: &mut [u8]) {
+    let number = rng.between(1, machine.tasks.len() as u32);
+    let at = task_at(number);
+    match machine.tasks[number as usize - 1].state {
+        State::Waiting { .. } => set_word(bytes, at + 3, rng.pick(&[0, 1, 1, 2, 256, u32::MAX])),
+        State::Ready { .. } => {
+            let endings = [SUCCESSFUL, TIMEOUT, OBJECT_WAS_DELETED, UNSATISFIED];
+            set_word(bytes, at + 1, rng.pick(&endings));
+            set_word(bytes, at, rng.between(MOST_URGENT, LEAST_URGENT));
+        }
+    }
+}

@@ -1,0 +1,31 @@
+//! The numbers of document 01: statuses, attributes, options and limits.
+
+pub const SUCCESSFUL: u32 = 0;
+pub const INVALID_NAME: u32 = 3;
+pub const INVALID_ID: u32 = 4;
+pub const TOO_MANY: u32 = 5;
+pub const TIMEOUT: u32 = 6;
+pub const OBJECT_WAS_DELETED: u32 = 7;
+pub const INVALID_NUMBER: u32 = 10;
+pub const NOT_DEFINED: u32 = 11;
+pub const RESOURCE_IN_USE: u32 = 12;
+pub const UNSATISFIED: u32 = 13;
+pub const INCORRECT_STATE: u32 = 14;
+pub const CALLED_FROM_ISR: u32 = 18;
+pub const INVALID_PRIORITY: u32 = 19;
+pub const NOT_OWNER_OF_RESOURCE: u32 = 23;
+pub const INTERNAL_ERROR: u32 = 25;
+pub const WAITING: u32 = 100;
+
+pub const PRIORITY: u32 = 4;
+pub const BINARY: u32 = 16;
+pub const SIMPLE_BINARY: u32 = 32;
+
+pub const NO_WAIT: u32 = 1;
+
+pub const MOST_TASKS: usize = 32;
+pub const MOST_SLOTS: usize = 64;
+pub const MOST_URGENT: u32 = 1;
+pub const LEAST_URGENT: u32 = 255;
+/// A slot of this generation is never used again once freed.
+pub const LAST_GENERATION: u32 = 65535;

@@ -1,0 +1,72 @@
+//! Recorded sequences of calls, for measuring.
+
+use crate::call::Call;
+use crate::generate::Plan;
+use crate::layout;
+use crate::model::Machine;
+use crate::rng::Rng;
+
+/// Tables to begin with, and the calls to make on them one after the other.
+pub struct Workload {
+    pub name: &'static str,
+    pub tables: Vec<u8>,
+    pub calls: Vec<Call>,
+}
+
+// Weights in the order of `KINDS`.
+const MIXED: [u32; 9] = [0, 8, 3, 6, 38, 26, 3, 10, 6];
+const MOSTLY_TICKS: [u32; 9] = [0, 1, 1, 1, 5, 3, 1, 87, 1];
+// A session has no line for the last kind.
+const SESSION_TICKS: [u32; 9] = [0, 1, 1, 1, 5, 3, 1, 88, 0];
+
+/// A small tag, a full machine, and a full machine that mostly ticks.
+pub fn all(calls: usize) -> Vec<Workload> {
+    let few = vec![3, 2, 2, 1];
+    let many: Vec<u32> = (0..32).map(|task| 1 + task % 7).collect();
+    vec![
+        record("4 tasks, 4 slots, mixed calls", 4, few, MIXED, calls),
+        record("32 tasks, 64 slots, mixed calls", 64, many.clone(), MIXED, calls),
+        record("32 tasks, 64 slots, mostly ticks", 64, many, MOSTLY_TICKS, calls),
+    ]
+}
+
+/// A whole session from an unstarted machine: 32 tasks, mostly ticks.
+pub fn session_of_ticks(calls: usize) -> Vec<Call> {
+    let priorities: Vec<u32> = (0..32).map(|task| 1 + task % 7).collect();
+    let mut session = opening(64, &priorities);
+    session.extend(record("", 64, priorities, SESSION_TICKS, calls).calls);
+    session
+}
+
+fn record(
+    name: &'static str,
+    slots: u32,
+    priorities: Vec<u32>,
+    weights: [u32; 9],
+    length: usize,
+) -> Workload {
+    let mut machine = Machine::default();
+    for call in opening(slots, &priorities) {
+        machine.call(&call);
+    }
+    let plan = Plan::steady(slots, priorities, weights);
+    let tables = layout::write(&machine);
+    let mut rng = Rng::new(length as u64);
+    let mut calls = Vec::with_capacity(length);
+    for _ in 0..length {
+        let call = plan.draw_call(&mut rng, &machine);
+        machine.call(&call);
+        calls.push(call);
+    }
+    Workload { name, tables, calls }
+}
+
+/// A start, and creates for three quarters of the slots.
+fn opening(slots: u32, priorities: &[u32]) -> Vec<Call> {
+    let mut calls = vec![Call::Start { slots, priorities: priorities.to_vec() }];
+    for slot in 0..slots * 3 / 4 {
+        let attributes = [0, 4, 16, 20, 32, 36][slot as usize % 6];
+        calls.push(Call::Create { caller: 1, name: 1 + slot % 10, count: 1, attributes });
+    }
+    calls
+}

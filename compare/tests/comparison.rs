@@ -1,0 +1,71 @@
+//! The comparison itself, with the in-place variant in the library's stead.
+
+use compare::call::{Answer, Call, Manager};
+use compare::intest::Tested;
+use compare::lent::{Comparison, Difference};
+use compare::{damage, sequence};
+
+fn random_parts(comparison: &mut Comparison, sequences: u64) -> Result<(), Box<Difference>> {
+    for seed in 0..sequences {
+        let machine = sequence::run(comparison, seed)?;
+        damage::at_random(comparison, seed, &machine)?;
+    }
+    Ok(())
+}
+
+#[test]
+fn in_place_is_as_the_model() {
+    let mut subject = Tested;
+    let mut comparison = Comparison::new(&mut subject);
+    random_parts(&mut comparison, 200).unwrap_or_else(|difference| panic!("{difference}"));
+    assert_eq!(comparison.coverage.gaps(), [""; 0]);
+}
+
+#[test]
+fn in_place_is_as_the_model_on_every_length() {
+    let mut subject = Tested;
+    damage::every_length(&mut Comparison::new(&mut subject)).unwrap_or_else(|found| panic!("{found}"));
+}
+
+#[test]
+fn in_place_is_as_the_model_on_every_word() {
+    let mut subject = Tested;
+    damage::every_word(&mut Comparison::new(&mut subject)).unwrap_or_else(|found| panic!("{found}"));
+}
+
+/// The in-place variant with one thing done wrong after the call.
+struct Wrong<Spoil>(Spoil);
+
+impl<Spoil: FnMut(&Call, &mut [u8], Answer) -> Answer> Manager for Wrong<Spoil> {
+    fn call(&mut self, tables: &mut [u8], call: &Call) -> Answer {
+        let answer = Tested.call(tables, call);
+        (self.0)(call, tables, answer)
+    }
+}
+
+fn is_found(spoil: impl FnMut(&Call, &mut [u8], Answer) -> Answer) -> Box<Difference> {
+    let mut subject = Wrong(spoil);
+    random_parts(&mut Comparison::new(&mut subject), 50).expect_err("the comparison finds it")
+}
+
+#[test]
+fn a_wrong_answer_is_found() {
+    let found = is_found(|_, _, answer| match answer.status {
+        25 => Answer { next: 1, ..answer },
+        _ => answer,
+    });
+    assert_eq!((found.expected.next, found.found.next), (0, 1));
+    assert!(found.memory.is_none());
+}
+
+#[test]
+fn a_wrong_byte_is_found_and_named() {
+    let found = is_found(|call, tables, answer| {
+        if matches!(call, Call::Flush { .. }) && answer.status == 0 {
+            compare::layout::set_word(tables, 134, 7);
+        }
+        answer
+    });
+    assert_eq!(found.expected, found.found);
+    assert!(found.memory.is_some_and(|said| said.starts_with("word 134, slot 1 count: ")));
+}

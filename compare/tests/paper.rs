@@ -1,0 +1,140 @@
+//! Document 01's cases and the agreement of its tables, on this project's own code.
+
+use compare::call::{Answer, Call, Manager};
+use compare::intest::{agrees, Tested};
+use compare::layout::{self, read, set_word, slot_at, task_at, word, Model, LENGTH, WORDS};
+
+#[test]
+fn paper_cases_hold_for_the_model() {
+    compare::cases::run(&mut Model).unwrap();
+}
+
+#[test]
+fn paper_cases_hold_in_place() {
+    compare::cases::run(&mut Tested).unwrap();
+}
+
+/// Task 1 owns slot 1 (binary, PRIORITY) and waits on slot 2 (counting); tasks 2 and 3 queue at slot 1.
+fn small_tables() -> Vec<u8> {
+    let mut tables = vec![0; LENGTH];
+    let obtain = |caller, id| Call::Obtain { caller, id, options: 0, timeout: 5 };
+    for call in [
+        Call::Start { slots: 3, priorities: vec![5, 6, 6] },
+        Call::Create { caller: 1, name: 1, count: 0, attributes: 20 },
+        Call::Create { caller: 1, name: 2, count: 0, attributes: 0 },
+        obtain(2, 65537),
+        obtain(3, 65537),
+        obtain(1, 65538),
+    ] {
+        Model.call(&mut tables, &call);
+    }
+    assert!(read(&tables).is_some(), "the tables that calls made agree");
+    tables
+}
+
+/// Both tests for 25 have to say `wanted` of the small tables after the edits.
+fn edited(edits: &[(usize, u32)], wanted: bool) {
+    let mut tables = small_tables();
+    for &(at, number) in edits {
+        set_word(&mut tables, at, number);
+    }
+    let named: Vec<_> = edits.iter().map(|&(at, number)| (layout::word_name(at), number)).collect();
+    assert_eq!(read(&tables).is_some(), wanted, "the model on {named:?}");
+    assert_eq!(agrees(&tables), wanted, "in place on {named:?}");
+}
+
+#[test]
+fn layout_has_its_length_and_byte_order() {
+    assert_eq!((WORDS, LENGTH), (2690, 10760));
+    let tables = small_tables();
+    assert_eq!(&tables[..8], &[0, 0, 0, 3, 0, 0, 0, 3]);
+    assert_eq!((task_at(1), slot_at(0), slot_at(63) + 40), (2, 130, WORDS));
+    let first: Vec<u32> = (slot_at(0)..slot_at(0) + 11).map(|at| word(&tables, at)).collect();
+    assert_eq!(first, [1, 1, 1, 20, 0, 1, 1, 2, 2, 3, 0]);
+    let waits: Vec<u32> = (task_at(2)..task_at(3)).map(|at| word(&tables, at)).collect();
+    assert_eq!(waits, [6, 100, 65537, 5]);
+}
+
+#[test]
+fn task_rules() {
+    edited(&[], true);
+    edited(&[(task_at(2), 0)], false);
+    edited(&[(task_at(2), 256)], false);
+    // Task 3 queues behind task 2, so its number may rise but not fall below.
+    edited(&[(task_at(3), 255)], true);
+    edited(&[(task_at(3), 5)], false);
+    edited(&[(task_at(2) + 1, 0)], false);
+    edited(&[(task_at(2) + 2, 65538)], false);
+    edited(&[(task_at(2) + 3, 0)], true);
+    edited(&[(task_at(2) + 3, u32::MAX)], true);
+    edited(&[(task_at(4), 1)], false);
+    edited(&[(0, 4)], false);
+    edited(&[(0, 4), (task_at(4), 1)], true);
+    edited(&[(0, 4), (task_at(4), 1), (task_at(4) + 1, 13)], true);
+    edited(&[(0, 4), (task_at(4), 1), (task_at(4) + 1, 12)], false);
+    edited(&[(0, 4), (task_at(4), 1), (task_at(4) + 3, 1)], false);
+    edited(&[(0, 4), (task_at(4), 1), (task_at(4) + 1, 100)], false);
+}
+
+#[test]
+fn slot_rules() {
+    let (binary, counting, free) = (slot_at(0), slot_at(1), slot_at(2));
+    edited(&[(1, 0)], false);
+    edited(&[(1, 64)], true);
+    edited(&[(1, 65)], false);
+    edited(&[(1, 1)], false);
+    edited(&[(binary + 1, 2)], false);
+    edited(&[(binary + 2, 0)], false);
+    edited(&[(binary + 3, 16)], true);
+    edited(&[(binary + 3, 4)], false);
+    edited(&[(binary + 3, 48)], false);
+    edited(&[(binary + 4, 1)], false);
+    edited(&[(binary + 5, 2)], false);
+    edited(&[(binary + 5, 4)], false);
+    edited(&[(binary + 5, 0), (binary + 6, 0)], false);
+    edited(&[(binary + 6, 0)], false);
+    edited(&[(binary + 6, u32::MAX)], true);
+    edited(&[(counting + 3, 36)], true);
+    edited(&[(counting + 5, 2), (counting + 6, 1)], false);
+    edited(&[(free, 65535)], true);
+    edited(&[(free, 65536)], false);
+    edited(&[(free + 2, 1)], false);
+    edited(&[(free + 1, 1), (free + 2, 1)], false);
+    edited(&[(free, 1), (free + 1, 1), (free + 2, 1)], true);
+    edited(&[(free, 1), (free + 1, 1), (free + 2, 1), (free + 4, u32::MAX)], true);
+    edited(&[(slot_at(3), 1)], false);
+}
+
+#[test]
+fn queue_rules() {
+    let (binary, counting) = (slot_at(0), slot_at(1));
+    // Equal priorities may stand either way.
+    edited(&[(binary + 8, 3), (binary + 9, 2)], true);
+    edited(&[(binary + 9, 2)], false);
+    edited(&[(binary + 7, 3), (binary + 10, 2)], false);
+    edited(&[(binary + 7, 1)], false);
+    edited(&[(binary + 7, 1), (binary + 9, 0)], false);
+    edited(&[(binary + 7, 33)], false);
+    edited(&[(binary + 10, 1)], false);
+    edited(&[(counting + 8, 0)], false);
+    edited(&[(counting + 8, 4)], false);
+    edited(&[(counting + 8, u32::MAX)], false);
+    // Generation and identifiers waited on move together.
+    let moved = 65535 * 65536 + 1;
+    edited(&[(binary, 65535)], false);
+    edited(&[(binary, 65535), (task_at(2) + 2, moved), (task_at(3) + 2, moved)], true);
+}
+
+#[test]
+fn other_lengths_never_agree() {
+    let mut call_on = |length: usize| {
+        let mut tables = small_tables();
+        tables.resize(length, 0);
+        let answers =
+            [Model.call(&mut tables.clone(), &Call::Tick), Tested.call(&mut tables, &Call::Tick)];
+        assert_eq!(answers, [Answer::DISAGREE; 2], "length {length}");
+    };
+    (0..40).for_each(&mut call_on);
+    (LENGTH - 9..LENGTH).for_each(&mut call_on);
+    (LENGTH + 1..LENGTH + 41).for_each(&mut call_on);
+}

@@ -1,0 +1,149 @@
+//! The session program's rules, on this project's own parser and printer.
+
+use compare::lines::{line_of, random_session};
+use compare::model::Machine;
+use compare::rng::Rng;
+use compare::session::{parse_line, print_answer, run_session, Session};
+
+fn session(input: &[u8], wanted: &str) {
+    let output = String::from_utf8(run_session(input)).unwrap();
+    assert_eq!(output, wanted, "for {:?}", String::from_utf8_lossy(input));
+}
+
+const WORKED: &[u8] = b"start 4 10 20\ncreate 1 77 1 20\nobtain 2 65537 0 0\nobtain 1 65537 0 3\n\
+tick\nrelease 2 65537\ndelete 2 65537\nrelease 1 65537\ndelete 1 65537\nobtain 1 65537 0 0\n\
+create 1 78 2 0\n";
+const WORKED_ANSWERS: &str = "0 0 1\n0 65537 1\n0 0 1\n100 0 2\n0 0 2\n0 0 1\n12 0 1\n0 0 1\n0 0 1\n\
+4 0 1\n0 131073 1\n";
+
+#[test]
+fn worked_session_of_the_paper() {
+    session(WORKED, WORKED_ANSWERS);
+}
+
+#[test]
+fn every_cut_of_the_input_gives_the_same_output() {
+    for size in 1..WORKED.len() {
+        let (mut session, mut output) = (Session::new(), Vec::new());
+        WORKED.chunks(size).for_each(|chunk| session.feed(chunk, &mut output));
+        session.finish(&mut output);
+        assert_eq!(output, WORKED_ANSWERS.as_bytes(), "chunks of {size}");
+    }
+}
+
+#[test]
+fn ends_of_the_input() {
+    session(b"", "");
+    session(b"\n", "bad\n");
+    session(b"tick", "0 0 0\n");
+    session(b"tick\n", "0 0 0\n");
+    session(b"tick\n\n", "0 0 0\nbad\n");
+    session(b"tick\nx", "0 0 0\nbad\n");
+}
+
+#[test]
+fn broken_lines() {
+    let broken: [&[u8]; 24] = [
+        b" tick",
+        b"tick ",
+        b"tick 1",
+        b"Tick",
+        b"tic",
+        b"ticks",
+        b"tick\r",
+        b"tick\0",
+        b"\ttick",
+        b"ident",
+        b"ident ",
+        b"ident 01",
+        b"ident 00",
+        b"ident  1",
+        b"ident 1 ",
+        b"ident 1 2",
+        b"ident -1",
+        b"ident +1",
+        b"ident 4294967296",
+        b"ident 99999999999999999999",
+        b"ident 1\x80",
+        b"start",
+        b"start ",
+        b"flush 1",
+    ];
+    for line in broken {
+        session(line, "bad\n");
+        session(&[line, b"\ntick\n"].concat(), "bad\n0 0 0\n");
+    }
+    session(b"ident 0\nident 4294967295\nstart 0\n", "3 0 0\n3 0 0\n10 0 0\n");
+    session(b"task 1\n", "bad\n");
+}
+
+#[test]
+fn longest_line() {
+    // 8 bytes and 2 for each priority.
+    let start_of = |length: usize| {
+        let mut line = if length.is_multiple_of(2) { b"start 64".to_vec() } else { b"start 4".to_vec() };
+        while line.len() < length {
+            line.extend_from_slice(b" 1");
+        }
+        assert_eq!(line.len(), length);
+        line
+    };
+    session(&start_of(255), "10 0 0\n");
+    session(&start_of(256), "10 0 0\n");
+    session(&start_of(257), "bad\n");
+    session(&[start_of(258), b"\ntick\n".to_vec()].concat(), "bad\n0 0 0\n");
+    session(&[vec![b'1'; 1 << 20], b"\ntick".to_vec()].concat(), "bad\n0 0 0\n");
+}
+
+#[test]
+fn a_broken_line_changes_nothing() {
+    session(b"start 1 1\ncreate 1 5 3 0 \ncreate 1 5 3 0\n", "0 0 1\nbad\n0 65537 1\n");
+}
+
+#[test]
+fn other_calls() {
+    let input = b"start 2 3 2 1\ncreate 3 7 0 32\nident 7\nobtain 3 65537 2 9\n\
+obtain 1 65537 1 9\nflush 0 65537\n";
+    session(input, "0 0 3\n0 65537 3\n0 65537 3\n100 0 2\n13 0 2\n0 0 3\n");
+}
+
+/// The session over the structs of the model, line by line from the whole text.
+fn session_of_the_model(input: &[u8]) -> Vec<u8> {
+    let (mut machine, mut output) = (Machine::default(), Vec::new());
+    let ended = input.strip_suffix(b"\n").unwrap_or(input);
+    if input.is_empty() {
+        return output;
+    }
+    for line in ended.split(|&byte| byte == b'\n') {
+        match parse_line(line) {
+            Some(call) => {
+                // What was read has to be said the same way again.
+                assert_eq!(line_of(&call).unwrap().as_bytes(), line);
+                print_answer(machine.call(&call), &mut output);
+            }
+            None => output.extend_from_slice(b"bad\n"),
+        }
+    }
+    output
+}
+
+#[test]
+fn random_sessions_cut_anywhere() {
+    let mut bad = 0;
+    for seed in 0..300 {
+        let input = random_session(seed, 100);
+        let wanted = session_of_the_model(&input);
+        assert_eq!(run_session(&input), wanted, "seed {seed}");
+        bad += wanted.split(|&byte| byte == b'\n').filter(|line| line == b"bad").count();
+        let mut rng = Rng::new(seed);
+        let (mut session, mut output, mut rest) = (Session::new(), Vec::new(), &input[..]);
+        while !rest.is_empty() {
+            let (chunk, after) = rest.split_at(rng.below(rest.len().min(700) + 1));
+            session.feed(chunk, &mut output);
+            rest = after;
+        }
+        session.finish(&mut output);
+        assert!(output == wanted, "seed {seed}, cut at random");
+    }
+    assert!(bad > 1000, "broken lines occur");
+}
