@@ -1,0 +1,3 @@
+pub mod Session
+pub mod Parts
+pub mod Kept
