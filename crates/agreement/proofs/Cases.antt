@@ -5,7 +5,8 @@ use Prim.Native.Nat.{ℕ}
 use native.Mathlib.Omega.{arith}
 use lib.Dec.{leb, eqb}
 use borrow.Author.Tests.{lt-leb}
-use Rattle.laws.specs.Choose.{choose, _and_, _or_, if-no, if-eq, if-ne}
+use Rattle.laws.specs.Choose.{choose, _and_, _or_}
+use Rattle.laws.proofs.Choose.{if-no, if-eq, if-ne}
 use Rattle.rules.specs.Numbers.{maxTasks, maxSlots, within}
 use Rattle.rules.specs.Machine.{Slot}
 use Rattle.rules.specs.Agreement.{occurs}

@@ -1,3 +1,4 @@
+pub mod Fine
 pub mod Queues
 pub mod Cases
 pub mod Places

@@ -9,8 +9,9 @@ use lib.Dec.{leb, eqb}
 use lib.ListN.{length, getD, take}
 use lib.Seq.{length-take-le, getD-take}
 use Rattle.laws.specs.Choose.{when}
-use Rattle.laws.specs.All.{all, all-at, all-of}
-use Rattle.laws.specs.FitLaws.{length-tabulate, getD-tabulate}
+use Rattle.laws.specs.All.{all}
+use Rattle.laws.proofs.All.{all-at, all-of}
+use Rattle.laws.proofs.Fit.{length-tabulate, getD-tabulate}
 use Rattle.words.specs.Words.{wordAt}
 use Rattle.rules.specs.Machine.{Tables, urgency}
 use Rattle.rules.specs.Agreement.{isWaiter}
@@ -19,7 +20,7 @@ use Rattle.tables.specs.Layout.{slotPlace, recordAt}
 use Rattle.agreement.specs.declared.Head.{Head}
 use Rattle.agreement.specs.Bytes.{placesAt, queueAt, headAt, slotWith}
 use Rattle.agreement.specs.Tests.{entriesWait, isOrdered, countFine}
-use Rattle.agreement.specs.Fine.{same-test}
+use Rattle.agreement.proofs.Fine.{same-test}
 
 -- tests that are the same at every number
 pub all-same : (n : ℕ) (p r : ℕ → Bool) → ((k : ℕ) → k < n → p k ≡ r k) → all n p ≡ all n r

@@ -8,7 +8,8 @@ use native.Mathlib.Numerals.{add-one}
 use native.Mathlib.Omega.{arith}
 use lib.Dec.{eqb}
 use lib.ListN.{length, getD, take}
-use Rattle.laws.specs.Choose.{bit, choose-cases}
+use Rattle.laws.specs.Choose.{bit}
+use Rattle.laws.proofs.Choose.{choose-cases}
 use Rattle.rules.specs.Agreement.{occurs}
 
 pub bit-few : (b : Bool) → bit b ≤ 1

@@ -8,9 +8,10 @@ use lib.Dec.{leb, eqb}
 use lib.ListN.{length}
 use lib.Seq.{length-take-le}
 use borrow.Author.Tests.{le-leb, lt-leb, eq-eqb, eqb-true}
-use Rattle.laws.specs.Choose.{choose, _and_, if-yes, if-no, and-both, both-and}
+use Rattle.laws.specs.Choose.{choose, _and_}
+use Rattle.laws.proofs.Choose.{if-yes, if-no, and-both, both-and}
 use Rattle.laws.specs.All.{all}
-use Rattle.laws.specs.FitLaws.{length-tabulate}
+use Rattle.laws.proofs.Fit.{length-tabulate}
 use Rattle.words.specs.Words.{wordAt, blank}
 use Rattle.words.proofs.Laws.{blank-at, blank-of}
 use Rattle.rules.specs.declared.Task.{Task}
@@ -23,7 +24,7 @@ use Rattle.tables.specs.Layout.{slotPlace, taskAt, recordAt, modelOf}
 use Rattle.lookup.proofs.Model.{length-tasks, length-slots, task-read, slot-read}
 use Rattle.lookup.proofs.Laws.{Named, named, not-named}
 use Rattle.agreement.specs.Tests.{waitingFine, readyFine, taskFine, freeFine, liveFine, slotFine, tasksFine, slotsFine}
-use Rattle.agreement.specs.Fine.{same-test}
+use Rattle.agreement.proofs.Fine.{same-test}
 
 -- the numbers below 7, one by one
 seven : (P : ℕ → Type 0) → P 0 → P 1 → P 2 → P 3 → P 4 → P 5 → P 6 → (j : ℕ) → j < 7 → P j

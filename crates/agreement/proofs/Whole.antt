@@ -7,8 +7,9 @@ use native.Mathlib.Omega.{arith}
 use native.Mathlib.Decide.{decLt}
 use lib.ListN.{length, getD, List·getD-eq-default}
 use borrow.Author.Tests.{leb-true, eqb-true}
-use Rattle.laws.specs.Choose.{_and_, and-both}
-use Rattle.laws.specs.All.{all-at}
+use Rattle.laws.specs.Choose.{_and_}
+use Rattle.laws.proofs.Choose.{and-both}
+use Rattle.laws.proofs.All.{all-at}
 use Rattle.words.specs.Words.{wordAt}
 use Rattle.words.proofs.Laws.{Bytes, wordAt-below}
 use Rattle.rules.specs.declared.Task.{Task}
@@ -18,7 +19,7 @@ use Rattle.rules.specs.Agreement.{sizesFit}
 use Rattle.tables.specs.Layout.{taskPlace, slotPlace, taskAt, recordAt, modelOf, isQueueLaid, isLaid}
 use Rattle.lookup.proofs.Model.{length-tasks, length-slots, task-read, slot-read}
 use Rattle.agreement.specs.Tests.{tasksFine, slotsFine, isFine}
-use Rattle.agreement.specs.Fine.{Narrow, agrees-fine}
+use Rattle.agreement.proofs.Fine.{Narrow, agrees-fine}
 use Rattle.agreement.specs.Bytes.{Bounded, countsFit, agreesBytes}
 
 abbrev pub bytesTests : List ℕ → Bool

@@ -1,3 +1,2 @@
 pub mod Tests
-pub mod Fine
 pub mod Bytes

@@ -49,13 +49,13 @@ fn is_ending(answer: u32) -> bool
     if answer == 0 {
         return true;
     }
-    if answer == 6 {
+    if answer == rules::TIMEOUT {
         return true;
     }
-    if answer == 7 {
+    if answer == rules::OBJECT_WAS_DELETED {
         return true;
     }
-    answer == 13
+    answer == rules::UNSATISFIED
 }
 
 // A ready task: its answer is an ending, and it waits on nothing.
@@ -173,7 +173,7 @@ fn is_waiter(m: &[u8], id: u32, q: u32) -> bool
         return false;
     }
     let v = tables::load_task(m, (q - 1) as usize);
-    if v.answer != 100 {
+    if v.answer != rules::WAITING {
         return false;
     }
     v.awaited == id
@@ -249,7 +249,12 @@ fn is_live_fine(m: &[u8], i: u32, s: Head) -> bool
     if !is_class_fine(m, tasks, i as usize, s) {
         return false;
     }
-    is_queue_fine(m, generation * 65536 + (i + 1), i as usize, s)
+    is_queue_fine(
+        m,
+        generation * rules::GENERATION_UNIT + (i + 1),
+        i as usize,
+        s,
+    )
 }
 
 // Slot i, counted from 0. A free one is 0 but for the generation.
@@ -258,7 +263,7 @@ fn is_slot_fine(m: &[u8], i: u32) -> bool
     ensures { λ r. ⌜ r ≡ slotFine (modelOf (now (m .entry))) (suc i) ⌝ }
 {
     let at = 130 + 40 * (i as usize);
-    if 65535 < words::word(m, at) {
+    if rules::MAX_GENERATION < words::word(m, at) {
         return false;
     }
     if words::word(m, at + 1) != 1 {
@@ -304,10 +309,10 @@ fn is_task_fine(m: &[u8], i: u32) -> bool
     if v.priority == 0 {
         return false;
     }
-    if 255 < v.priority {
+    if rules::MAX_PRIORITY < v.priority {
         return false;
     }
-    if v.answer == 100 {
+    if v.answer == rules::WAITING {
         return is_waiting_fine(m, i + 1, v.awaited);
     }
     is_ready_fine(v)
@@ -335,13 +340,13 @@ fn do_counts_fit(tasks: u32, slots: u32) -> bool
     if tasks == 0 {
         return slots == 0;
     }
-    if 32 < tasks {
+    if rules::MAX_TASKS < tasks {
         return false;
     }
     if slots == 0 {
         return false;
     }
-    slots <= 64
+    slots <= rules::MAX_SLOTS
 }
 
 // Whether lent bytes, of any length, are the layout of tables that agree.

@@ -3,7 +3,7 @@ use mathlib.Core.Path.{_≡_, ap, _∙_}
 use mathlib.Core.List.{List}
 use Prim.Native.Nat.{ℕ}
 use borrow.Author.Tests.{eq-eqb, ne-eqb}
-use Rattle.laws.specs.Choose.{if-yes, if-no}
+use Rattle.laws.proofs.Choose.{if-yes, if-no}
 use Rattle.words.proofs.Laws.{Bytes}
 use Rattle.rules.specs.declared.Answer.{Answer}
 use Rattle.rules.specs.Machine.{Tables}

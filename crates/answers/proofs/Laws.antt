@@ -7,15 +7,15 @@ use Prim.Native.Nat.{ℕ, suc, _≤_, _<_}
 use native.Mathlib.Omega.{arith}
 use lib.ListN.{length, getD}
 use borrow.Author.Tests.{eqb-true, leb-true}
-use Rattle.laws.specs.Choose.{tested, or-either, and-both}
+use Rattle.laws.proofs.Choose.{tested, or-either, and-both}
 use Rattle.words.proofs.Laws.{Bytes}
 use Rattle.words.specs.Words.{wordAt}
 use Rattle.rules.specs.Machine.{Tables, isLive, freeSlot, next}
 use Rattle.rules.specs.Agreement.{Agrees, sizesFit}
 use Rattle.rules.specs.Calls.{answered}
-use Rattle.invariants.specs.Facts.{Facts, slotAt}
-use Rattle.invariants.specs.FromTests.{agrees-facts}
-use Rattle.invariants.specs.Room as room
+use Rattle.rules.proofs.Invariants.Facts.{Facts, nthSlot}
+use Rattle.rules.proofs.Invariants.FromTests.{agrees-facts}
+use Rattle.rules.proofs.Invariants.Room as room
 use Rattle.tables.specs.Layout.{Holds, laid, modelOf, tablesLength}
 use Rattle.tables.proofs.LawsRead.{length-laid, laid-tasks, laid-slots, modelOf-laid}
 use Rattle.tables.proofs.LawsHolds.{holds-bytes}
@@ -41,11 +41,11 @@ module _ (t : Tables) (a : Agrees t) where
   slots-few = sizes-few t (a .sizes) .1
 
   -- every queue is within its places
-  pub queue-few : (j : ℕ) → length (slotAt t j .queue) ≤ 32
+  pub queue-few : (j : ℕ) → length (nthSlot t j .queue) ≤ 32
   queue-few j =
-      ⊎-elim (λ (l : isLive (slotAt t j) ≡ true). omega (arith, tasks-few, room.queue-few t facts j l))
-      (λ (n : isLive (slotAt t j) ≡ false). omega (arith, facts .slots j .whenFree n .queue))
-      (tested (isLive (slotAt t j)))
+      ⊎-elim (λ (l : isLive (nthSlot t j) ≡ true). omega (arith, tasks-few, room.queue-few t facts j l))
+      (λ (n : isLive (nthSlot t j) ≡ false). omega (arith, facts .slots j .whenFree n .queue))
+      (tested (isLive (nthSlot t j)))
 
   module _ (bs : List ℕ) (e : bs ≡ laid t) (b : Bytes bs) where
     pub holds : Holds t

@@ -7,20 +7,20 @@ use native.Mathlib.Numerals.{sub-one}
 use native.Mathlib.Omega.{arith}
 use lib.ListN.{length, getD}
 use lib.Seq.{getD-take}
-use Rattle.laws.specs.Choose.{if-yes}
+use Rattle.laws.proofs.Choose.{if-yes}
 use Rattle.words.proofs.Laws.{Bytes}
 use Rattle.rules.specs.declared.Answer.{Answer}
 use Rattle.rules.specs.declared.Call.{Call}
 use Rattle.rules.specs.Machine.{Slot, Tables, slotOf, isLive, names, slotNamed}
 use Rattle.rules.specs.Agreement.{Agrees}
 use Rattle.rules.specs.Calls.{Outcome, answered, refused, unless, perform, step}
-use Rattle.invariants.specs.Fits.{callFits}
-use Rattle.invariants.specs.Facts.{Facts}
-use Rattle.invariants.specs.FromTests.{agrees-facts}
-use Rattle.invariants.specs.Agreeing.{agrees-true}
-use Rattle.invariants.specs.Room.{entry-within}
-use Rattle.invariants.specs.Refusals.{found}
-use Rattle.invariants.specs.Kept.{kept}
+use Rattle.rules.specs.Fits.{callFits}
+use Rattle.rules.proofs.Invariants.Facts.{Facts}
+use Rattle.rules.proofs.Invariants.FromTests.{agrees-facts}
+use Rattle.rules.proofs.Invariants.Agreeing.{agrees-true}
+use Rattle.rules.proofs.Invariants.Room.{entry-within}
+use Rattle.rules.proofs.Invariants.Refusals.{found}
+use Rattle.rules.proofs.Invariants.Kept.{kept}
 use Rattle.semaphore.specs.declared.Semaphore.{Semaphore}
 use Rattle.semaphore.specs.Record.{Stands}
 use Rattle.semaphore.proofs.Steps.{length-queue}

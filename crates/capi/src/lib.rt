@@ -4,11 +4,11 @@ ghost use mathlib.Core.Path.{_≡_};
 ghost use mathlib.Core.List.{[]};
 ghost use Rattle.rules.specs.declared.Call.the-variants.{Start, Create, Ident, Delete, Obtain, Release, Flush, Tick};
 ghost use Rattle.rules.specs.Semaphore.{waitOf};
-ghost use Rattle.manager.specs.Entry.{Replied, entry, taskEntry};
+ghost use Rattle.manager.specs.Entry.{Replied, replyTo, taskReply};
 
 #[no_mangle]
 pub extern "C" fn mast_start(tables: &mut [u8], slots: u32, priorities: &[u32]) -> Answer
-    ensures { λ r. ⌜ Replied r (now (tables .exit)) (entry (now (tables .entry)) (Start slots) (now (priorities .entry))) ⌝ }
+    ensures { λ r. ⌜ Replied r (now (tables .exit)) (replyTo (now (tables .entry)) (Start slots) (now (priorities .entry))) ⌝ }
 {
     manager::start(tables, slots, priorities)
 }
@@ -21,21 +21,21 @@ pub extern "C" fn mast_create(
     count: u32,
     attributes: u32,
 ) -> Answer
-    ensures { λ r. ⌜ Replied r (now (tables .exit)) (entry (now (tables .entry)) (Create caller name count attributes) []) ⌝ }
+    ensures { λ r. ⌜ Replied r (now (tables .exit)) (replyTo (now (tables .entry)) (Create caller name count attributes) []) ⌝ }
 {
     manager::create(tables, caller, name, count, attributes)
 }
 
 #[no_mangle]
 pub extern "C" fn mast_ident(tables: &[u8], name: u32) -> Answer
-    ensures { λ r. ⌜ Replied r (now (tables .entry)) (entry (now (tables .entry)) (Ident name) []) ⌝ }
+    ensures { λ r. ⌜ Replied r (now (tables .entry)) (replyTo (now (tables .entry)) (Ident name) []) ⌝ }
 {
     manager::ident(tables, name)
 }
 
 #[no_mangle]
 pub extern "C" fn mast_delete(tables: &mut [u8], caller: u32, id: u32) -> Answer
-    ensures { λ r. ⌜ Replied r (now (tables .exit)) (entry (now (tables .entry)) (Delete caller id) []) ⌝ }
+    ensures { λ r. ⌜ Replied r (now (tables .exit)) (replyTo (now (tables .entry)) (Delete caller id) []) ⌝ }
 {
     manager::delete(tables, caller, id)
 }
@@ -48,35 +48,35 @@ pub extern "C" fn mast_obtain(
     options: u32,
     timeout: u32,
 ) -> Answer
-    ensures { λ r. ⌜ Replied r (now (tables .exit)) (entry (now (tables .entry)) (Obtain caller id (waitOf options timeout)) []) ⌝ }
+    ensures { λ r. ⌜ Replied r (now (tables .exit)) (replyTo (now (tables .entry)) (Obtain caller id (waitOf options timeout)) []) ⌝ }
 {
     manager::obtain(tables, caller, id, rules::wait_of(options, timeout))
 }
 
 #[no_mangle]
 pub extern "C" fn mast_release(tables: &mut [u8], caller: u32, id: u32) -> Answer
-    ensures { λ r. ⌜ Replied r (now (tables .exit)) (entry (now (tables .entry)) (Release caller id) []) ⌝ }
+    ensures { λ r. ⌜ Replied r (now (tables .exit)) (replyTo (now (tables .entry)) (Release caller id) []) ⌝ }
 {
     manager::release(tables, caller, id)
 }
 
 #[no_mangle]
 pub extern "C" fn mast_flush(tables: &mut [u8], caller: u32, id: u32) -> Answer
-    ensures { λ r. ⌜ Replied r (now (tables .exit)) (entry (now (tables .entry)) (Flush caller id) []) ⌝ }
+    ensures { λ r. ⌜ Replied r (now (tables .exit)) (replyTo (now (tables .entry)) (Flush caller id) []) ⌝ }
 {
     manager::flush(tables, caller, id)
 }
 
 #[no_mangle]
 pub extern "C" fn mast_tick(tables: &mut [u8]) -> Answer
-    ensures { λ r. ⌜ Replied r (now (tables .exit)) (entry (now (tables .entry)) Tick []) ⌝ }
+    ensures { λ r. ⌜ Replied r (now (tables .exit)) (replyTo (now (tables .entry)) Tick []) ⌝ }
 {
     manager::tick(tables)
 }
 
 #[no_mangle]
 pub extern "C" fn mast_task(tables: &[u8], task: u32) -> Answer
-    ensures { λ r. ⌜ r ≡ taskEntry (now (tables .entry)) task ⌝ }
+    ensures { λ r. ⌜ r ≡ taskReply (now (tables .entry)) task ⌝ }
 {
     manager::task(tables, task)
 }

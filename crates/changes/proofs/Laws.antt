@@ -6,7 +6,7 @@ use native.Mathlib.Numerals.{add-one, sub-one}
 use native.Mathlib.Omega.{arith}
 use lib.ListN.{length, getD, take, length-set, length-map}
 use lib.Seq.{sets, take-suc}
-use Rattle.laws.specs.FitLaws.{getD-map}
+use Rattle.laws.proofs.Fit.{getD-map}
 use Rattle.words.specs.Words.{bytesOf, wordAt}
 use Rattle.words.proofs.Laws.{Bytes, words-below, wordAt-bytesOf}
 use Rattle.rules.specs.declared.Task.{Task}

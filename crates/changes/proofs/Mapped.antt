@@ -9,7 +9,7 @@ use native.Mathlib.Omega.{arith}
 use lib.ListN.{length, getD, set, take, drop}
 use lib.Seq.{ext-getD, getD-set-same, getD-set-other}
 use Rattle.laws.specs.Rows.{fit}
-use Rattle.laws.specs.FitLaws.{length-fit, getD-fit}
+use Rattle.laws.proofs.Fit.{length-fit, getD-fit}
 
 -- the first i elements mapped, the others as they are
 abbrev pub mapped : {A : Type 0} → (A → A) → ℕ → List A → List A

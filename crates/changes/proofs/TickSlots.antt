@@ -9,7 +9,7 @@ use native.Mathlib.Omega.{arith}
 use lib.ListN.{length, getD, List·getD-eq-default}
 use Rattle.laws.specs.Choose.{choose}
 use Rattle.laws.specs.Rows.{fit}
-use Rattle.laws.specs.FitLaws.{length-fit, getD-fit}
+use Rattle.laws.proofs.Fit.{length-fit, getD-fit}
 use Rattle.words.specs.Words.{wordAt}
 use Rattle.words.proofs.Laws.{Bytes}
 use Rattle.rules.specs.declared.Task.{Task}

@@ -9,7 +9,8 @@ use lib.Dec.{eqb}
 use lib.ListN.{length, getD}
 use lib.Seq.{sets, set-getD}
 use borrow.Author.Tests.{eq-eqb, ne-eqb, le-leb, lt-leb}
-use Rattle.laws.specs.Choose.{choose, both-and, if-yes, if-no, if-eq, if-ne}
+use Rattle.laws.specs.Choose.{choose}
+use Rattle.laws.proofs.Choose.{both-and, if-yes, if-no, if-eq, if-ne}
 use Rattle.words.specs.Words.{bytesOf, wordAt}
 use Rattle.words.proofs.Laws.{Bytes}
 use Rattle.rules.specs.declared.Task.{Task}

@@ -16,13 +16,11 @@ ghost use Rattle.changes.specs.Limits.{Limited, TaskQueues, expiring};
 fn readied(v: Task, answer: u32) -> Task
     ensures { λ r. ⌜ r ≡ readied v answer ⌝ }
 {
-    // no ticks are left of it
-    let left = 0;
     Task {
         priority: v.priority,
         answer: answer,
         awaited: 0,
-        ticks: left,
+        ticks: 0,
     }
 }
 
@@ -91,7 +89,7 @@ pub fn start_tables(m: &mut [u8], slots: u32, priorities: &[u32])
 fn expires(v: Task) -> bool
     ensures { λ r. ⌜ r ≡ expires v ⌝ }
 {
-    if v.answer != 100 {
+    if v.answer != rules::WAITING {
         return false;
     }
     v.ticks == 1
@@ -101,11 +99,11 @@ fn expires(v: Task) -> bool
 pub fn ticked(v: Task) -> Task
     ensures { λ r. ⌜ r ≡ ticked v ⌝ }
 {
-    if v.answer != 100 {
+    if v.answer != rules::WAITING {
         return v;
     }
     if v.ticks == 1 {
-        return readied(v, 6);
+        return readied(v, rules::TIMEOUT);
     }
     if v.ticks == 0 {
         return v;

@@ -8,7 +8,8 @@ use native.Mathlib.Omega.{arith}
 use lib.Dec.{eqb}
 use lib.ListN.{length, getD, take}
 use borrow.Author.Tests.{eq-eqb, ne-eqb, le-leb}
-use Rattle.laws.specs.Choose.{_and_, _or_, if-yes, if-no, both-and, or-first, or-second}
+use Rattle.laws.specs.Choose.{_and_, _or_}
+use Rattle.laws.proofs.Choose.{if-yes, if-no, both-and, or-first, or-second}
 use Rattle.words.proofs.Laws.{Bytes}
 use Rattle.rules.specs.declared.Answer.{Answer}
 use Rattle.rules.specs.declared.Task.{Task}
@@ -16,7 +17,7 @@ use Rattle.rules.specs.declared.Call.the-variants.{Delete}
 use Rattle.rules.specs.Numbers.{maxNumber, within}
 use Rattle.rules.specs.Machine.{Slot, Tables, noTask, freeSlot, taskOf, slotOf, putSlot, names, slotNamed}
 use Rattle.rules.specs.Calls.{Outcome, answered, refused, wakeAll, firstNamed, ident, deleteRefusal, delete, perform}
-use Rattle.invariants.specs.Refusals.{must, task-only, found}
+use Rattle.rules.proofs.Invariants.Refusals.{must, task-only, found}
 use Rattle.semaphore.specs.declared.Semaphore.{Semaphore}
 use Rattle.semaphore.specs.Record.{Stands}
 use Rattle.tables.specs.Layout.{laid, modelOf, taskAt}

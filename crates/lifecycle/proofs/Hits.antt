@@ -7,7 +7,7 @@ use Prim.Native.Nat.{ℕ, suc, _+_, _-_, _≤_, _<_}
 use native.Mathlib.Numerals.{sub-one}
 use native.Mathlib.Omega.{arith}
 use lib.ListN.{length, getD}
-use Rattle.laws.specs.Choose.{tested, if-yes, if-no}
+use Rattle.laws.proofs.Choose.{tested, if-yes, if-no}
 use Rattle.words.specs.Words.{wordAt}
 use Rattle.rules.specs.Machine.{Slot, freeSlot, slotOf}
 use Rattle.rules.specs.Calls.{firstNamed}

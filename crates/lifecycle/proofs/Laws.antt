@@ -7,7 +7,8 @@ use native.Mathlib.Omega.{arith}
 use lib.Dec.{leb, eqb}
 use lib.ListN.{length, getD}
 use borrow.Author.Tests.{eq-eqb, ne-eqb, le-leb, lt-leb}
-use Rattle.laws.specs.Choose.{choose, _and_, _or_, isnt, if-yes, if-no, choose-same, both-and}
+use Rattle.laws.specs.Choose.{choose, _and_, _or_, isnt}
+use Rattle.laws.proofs.Choose.{if-yes, if-no, choose-same, both-and}
 use Rattle.laws.specs.All.{all}
 use Rattle.words.specs.Words.{wordAt}
 use Rattle.rules.specs.Numbers.{within, isBinary, isSimple}

@@ -8,14 +8,15 @@ use native.Mathlib.Omega.{arith}
 use lib.Dec.{leb, ltb, eqb}
 use lib.ListN.{length, getD}
 use borrow.Author.Tests.{eqb-true, eqb-false, le-leb, leb-true, leb-false, ltb-true}
-use Rattle.laws.specs.Choose.{_and_, _or_, and-both, both-and, or-either}
+use Rattle.laws.specs.Choose.{_and_, _or_}
+use Rattle.laws.proofs.Choose.{and-both, both-and, or-either}
 use Rattle.words.proofs.Laws.{Bytes}
 use Rattle.rules.specs.declared.Call.the-variants.{Start, Create}
 use Rattle.rules.specs.Numbers.{maxNumber, within, allowed, isBinary, isSimple}
 use Rattle.rules.specs.Machine.{Slot, Tables, unstarted, freeSlot, slotOf, putSlot}
 use Rattle.rules.specs.Agreement.{Agrees, sizesFit}
 use Rattle.rules.specs.Calls.{Outcome, answered, refused, startRefusal, started, start, openSlot, createRefusal, newSemaphore, create, perform}
-use Rattle.invariants.specs.Refusals.{must, mustnt, task-only}
+use Rattle.rules.proofs.Invariants.Refusals.{must, mustnt, task-only}
 use Rattle.semaphore.specs.declared.Semaphore.{Semaphore}
 use Rattle.semaphore.specs.Record.{Stands}
 use Rattle.tables.specs.Layout.{laid, modelOf}

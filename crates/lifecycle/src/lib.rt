@@ -34,7 +34,7 @@ fn are_priorities(priorities: &[u32]) -> bool
         if p < 1 {
             return false;
         }
-        if 255 < p {
+        if rules::MAX_PRIORITY < p {
             return false;
         }
         i += 1;
@@ -47,22 +47,22 @@ fn start_refusal(m: &[u8], slots: u32, priorities: &[u32]) -> u32
     ensures { λ r. ⌜ r ≡ startRefusal (modelOf (now (m .entry))) slots (now (priorities .entry)) ⌝ }
 {
     if 1 <= tables::task_count(m) {
-        return 14;
+        return rules::INCORRECT_STATE;
     }
     if priorities.len() < 1 {
-        return 10;
+        return rules::INVALID_NUMBER;
     }
-    if 32 < priorities.len() {
-        return 10;
+    if tables::TASK_PLACES < priorities.len() {
+        return rules::INVALID_NUMBER;
     }
     if slots < 1 {
-        return 10;
+        return rules::INVALID_NUMBER;
     }
-    if 64 < slots {
-        return 10;
+    if rules::MAX_SLOTS < slots {
+        return rules::INVALID_NUMBER;
     }
     if !are_priorities(priorities) {
-        return 19;
+        return rules::INVALID_PRIORITY;
     }
     0
 }
@@ -109,16 +109,16 @@ fn create_refusal(m: &[u8], caller: u32, name: u32, count: u32, attributes: u32)
         return refusal;
     }
     if name == 0 {
-        return 3;
+        return rules::INVALID_NAME;
     }
     if !rules::is_allowed(attributes) {
-        return 11;
+        return rules::NOT_DEFINED;
     }
     if is_count_over(count, attributes) {
-        return 10;
+        return rules::INVALID_NUMBER;
     }
     if lookup::open_slot(m) == 0 {
-        return 5;
+        return rules::TOO_MANY;
     }
     0
 }
@@ -135,7 +135,7 @@ pub fn create(m: &mut [u8], caller: u32, name: u32, count: u32, attributes: u32)
     let generation = words::word(m, 130 + 40 * ((n - 1) as usize));
     let s = semaphore::created(generation, caller, name, count, attributes);
     changes::put_slot(m, n, s);
-    answers::answer(m, 0, (generation + 1) * 65536 + n)
+    answers::answer(m, 0, (generation + 1) * rules::GENERATION_UNIT + n)
 }
 
 // ---- ident
@@ -145,14 +145,14 @@ pub fn ident(m: &[u8], name: u32) -> Answer
     ensures { λ r. ⌜ ((t : Tables) → Agrees t → now (m .entry) ≡ laid t → Did r (now (m .entry)) (ident t name)) ⌝ }
 {
     if name == 0 {
-        return refuse(m, 3);
+        return refuse(m, rules::INVALID_NAME);
     }
     let n = lookup::first_named(m, name);
     if n == 0 {
-        return refuse(m, 3);
+        return refuse(m, rules::INVALID_NAME);
     }
     let generation = words::word(m, 130 + 40 * ((n - 1) as usize));
-    answers::answer(m, 0, generation * 65536 + n)
+    answers::answer(m, 0, generation * rules::GENERATION_UNIT + n)
 }
 
 // ---- delete
@@ -177,11 +177,11 @@ fn delete_refusal(m: &[u8], caller: u32, id: u32) -> u32
     }
     let n = lookup::slot_named(m, id);
     if n == 0 {
-        return 4;
+        return rules::INVALID_ID;
     }
     let s = tables::load_slot(m, (n - 1) as usize);
     if is_owned(s) {
-        return 12;
+        return rules::RESOURCE_IN_USE;
     }
     0
 }
@@ -198,7 +198,7 @@ pub fn delete(m: &mut [u8], caller: u32, id: u32) -> Answer
     let s = tables::load_slot(m, (n - 1) as usize);
     changes::put_slot(m, n, semaphore::free(s.generation));
     let queue = s.queue;
-    changes::wake_all(m, queue, s.waiters as usize, 7);
+    changes::wake_all(m, queue, s.waiters as usize, rules::OBJECT_WAS_DELETED);
     answers::answer(m, 0, 0)
 }
 
@@ -211,10 +211,10 @@ pub fn task(m: &[u8], q: u32) -> Answer
 {
     let n = tables::task_count(m);
     if q < 1 {
-        return refuse(m, 4);
+        return refuse(m, rules::INVALID_ID);
     }
     if n < q {
-        return refuse(m, 4);
+        return refuse(m, rules::INVALID_ID);
     }
     let v = tables::load_task(m, (q - 1) as usize);
     answers::answer(m, 0, v.answer)

@@ -9,7 +9,8 @@ use native.Mathlib.Decide.{ℕ-discrete}
 use lib.Dec.{leb, eqb}
 use lib.ListN.{length}
 use borrow.Author.Tests.{le-leb, lt-leb, eq-eqb, ne-eqb, leb-true, leb-false, eqb-false}
-use Rattle.laws.specs.Choose.{choose, _and_, _or_, isnt, never, and-both, choose-same}
+use Rattle.laws.specs.Choose.{choose, _and_, _or_, isnt}
+use Rattle.laws.proofs.Choose.{never, and-both, choose-same}
 use Rattle.rules.specs.Numbers.{maxNumber, within}
 use Rattle.line.specs.Line.{allDigits, spelled, isNumber}
 use Rattle.line.specs.Scan.{goesOn}

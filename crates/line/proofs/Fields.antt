@@ -9,7 +9,8 @@ use lib.Dec.{eqb}
 use lib.ListN.{length, getD, take, drop, drop-of-length-le, List·getD-eq-default}
 use lib.Seq.{drop-cons}
 use borrow.Author.Tests.{eqb-false}
-use Rattle.laws.specs.Choose.{choose, choose-cases, if-ne}
+use Rattle.laws.specs.Choose.{choose}
+use Rattle.laws.proofs.Choose.{choose-cases, if-ne}
 use Rattle.line.specs.Line.{fields, ontoFirst}
 use Rattle.line.specs.Scan.{first, others}
 

@@ -8,7 +8,8 @@ use native.Mathlib.Omega.{arith}
 use lib.Dec.{leb}
 use lib.ListN.{length, take, drop, set, length-append, length-drop, length-set}
 use lib.Seq.{paste, take-all, take-length, take-at, drop-at, drop-cons, drop-drop, drop-set-lt, getD-set-same, length-take-le, drop-append-add}
-use Rattle.laws.specs.Choose.{choose, choose-cases, choose-map, if-le, if-not-le}
+use Rattle.laws.specs.Choose.{choose}
+use Rattle.laws.proofs.Choose.{choose-cases, choose-map, if-le, if-not-le}
 use Rattle.line.specs.Print.{digitsBefore, decimal, answerLine, spliced}
 use Rattle.rules.specs.declared.Answer.{Answer}
 

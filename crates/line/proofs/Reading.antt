@@ -10,7 +10,8 @@ use native.Mathlib.Omega.{arith}
 use lib.Dec.{leb, eqb}
 use lib.ListN.{length, getD, drop, drop-of-length-le}
 use borrow.Author.Tests.{le-leb, lt-leb, ne-eqb}
-use Rattle.laws.specs.Choose.{choose, _and_, isnt, choose-same, tested, never, if-yes, if-no}
+use Rattle.laws.specs.Choose.{choose, _and_, isnt}
+use Rattle.laws.proofs.Choose.{choose-same, tested, never, if-yes, if-no}
 use Rattle.line.specs.Line.{areNumbers, numbers, spelled}
 use Rattle.line.specs.Scan.{first, others, allNumbers, goesOn, digitBehind}
 use Rattle.line.specs.declared.Digit.the-variants.{Broken, Value}

@@ -11,7 +11,8 @@ use lib.Dec.{leb, eqb}
 use lib.ListN.{length, getD, take, drop, length-take}
 use lib.Seq.{length-take-le, getD-take, take-nil, take-length}
 use borrow.Author.Tests.{eqb-true, leb-true, le-leb, lt-leb}
-use Rattle.laws.specs.Choose.{choose, _and_, tested, if-yes, if-no, choose-same}
+use Rattle.laws.specs.Choose.{choose, _and_}
+use Rattle.laws.proofs.Choose.{tested, if-yes, if-no, choose-same}
 use Rattle.rules.specs.declared.Call.{Call}
 use Rattle.rules.specs.declared.Call.the-variants.{Start, Create, Ident, Delete, Obtain, Release, Flush, Tick}
 use Rattle.rules.specs.Semaphore.{waitOf}

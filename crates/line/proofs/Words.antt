@@ -8,7 +8,8 @@ use native.Mathlib.Omega.{arith}
 use lib.Dec.{eqb}
 use lib.ListN.{length, getD, drop, drop-of-length-le}
 use lib.Seq.{drop-cons}
-use Rattle.laws.specs.Choose.{choose, _and_, if-eq, if-ne, choose-same}
+use Rattle.laws.specs.Choose.{choose, _and_}
+use Rattle.laws.proofs.Choose.{if-eq, if-ne, choose-same}
 use Rattle.line.specs.Line.{same}
 use Rattle.line.specs.Scan.{first}
 use Rattle.line.proofs.Fields.{first-cons, from-here, field-ends, in-line}

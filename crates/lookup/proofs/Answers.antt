@@ -8,7 +8,8 @@ use lib.Dec.{ltb, eqb}
 use lib.ListN.{length, getD}
 use lib.Seq.{length-take-le}
 use borrow.Author.Tests.{eq-eqb, ne-eqb, lt-ltb, le-ltb, le-leb, lt-leb}
-use Rattle.laws.specs.Choose.{choose, _and_, isnt, if-yes, if-no, if-lt, if-not-lt, choose-same, both-and, false-isnt}
+use Rattle.laws.specs.Choose.{choose, _and_, isnt}
+use Rattle.laws.proofs.Choose.{if-yes, if-no, if-lt, if-not-lt, choose-same, both-and, false-isnt}
 use Rattle.words.specs.Words.{wordAt}
 use Rattle.rules.specs.declared.Task.{Task}
 use Rattle.rules.specs.Numbers.{byPriority}

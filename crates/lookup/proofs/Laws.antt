@@ -7,7 +7,8 @@ use native.Mathlib.Omega.{arith}
 use lib.Dec.{leb, eqb}
 use lib.ListN.{length}
 use borrow.Author.Tests.{leb-true, eqb-true}
-use Rattle.laws.specs.Choose.{choose, _and_, isnt, if-yes, if-no, and-both, tested}
+use Rattle.laws.specs.Choose.{choose, _and_, isnt}
+use Rattle.laws.proofs.Choose.{if-yes, if-no, and-both, tested}
 use Rattle.rules.specs.Machine.{Tables, names, slotNamed}
 use Rattle.rules.specs.Calls.{taskOnly, anyCaller, callerRefusal}
 

@@ -3,7 +3,7 @@ use mathlib.Core.Path.{_≡_}
 use mathlib.Core.List.{List}
 use Prim.Native.Nat.{ℕ, _≤_, _<_}
 use lib.ListN.{length, getD, List·getD-eq-default}
-use Rattle.laws.specs.FitLaws.{length-tabulate, getD-tabulate}
+use Rattle.laws.proofs.Fit.{length-tabulate, getD-tabulate}
 use Rattle.words.specs.Words.{wordAt}
 use Rattle.rules.specs.Machine.{noTask, freeSlot}
 use Rattle.semaphore.specs.Record.{slotFrom}

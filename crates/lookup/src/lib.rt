@@ -14,6 +14,9 @@ ghost use Rattle.semaphore.specs.Record.{slotFrom};
 ghost use Rattle.tables.specs.Layout.{modelOf};
 ghost use Rattle.lookup.specs.Fits.{Sized};
 
+// A number above every priority.
+const ABOVE_ALL: u32 = 256;
+
 // The most urgent ready task among those seen so far, 0 for none, and its priority.
 struct Best {
     task: u32,
@@ -24,7 +27,7 @@ struct Best {
 fn better(best: Best, q: u32, v: Task) -> Best
     ensures { λ r. ⌜ ((vs : List TaskModel) → mostUrgent vs (suc q) (r .task) (r .priority) ≡ mostUrgent (v ∷ vs) q (best .task) (best .priority)) ⌝ }
 {
-    if v.answer == 100 {
+    if v.answer == rules::WAITING {
         return best;
     }
     if best.priority <= v.priority {
@@ -43,7 +46,7 @@ pub fn next_task(m: &[u8]) -> u32
     let n = tables::task_count(m);
     let mut best = Best {
         task: 0,
-        priority: 256,
+        priority: ABOVE_ALL,
     };
     let mut i: u32 = 0;
     while i < n {
@@ -85,11 +88,11 @@ fn caller_refusal(m: &[u8], caller: u32) -> u32
 {
     let n = tables::task_count(m);
     if n < caller {
-        return 4;
+        return rules::INVALID_ID;
     }
     let v = tables::load_task(m, (caller - 1) as usize);
-    if v.answer == 100 {
-        return 14;
+    if v.answer == rules::WAITING {
+        return rules::INCORRECT_STATE;
     }
     0
 }
@@ -100,7 +103,7 @@ pub fn task_only(m: &[u8], caller: u32) -> u32
     ensures { λ r. ⌜ r ≡ taskOnly (modelOf (now (m .entry))) caller 0 ⌝ }
 {
     if caller == 0 {
-        return 18;
+        return rules::CALLED_FROM_ISR;
     }
     caller_refusal(m, caller)
 }
@@ -123,7 +126,7 @@ fn is_open(live: u32, generation: u32) -> bool
     if live == 1 {
         return false;
     }
-    generation < 65535
+    generation < rules::MAX_GENERATION
 }
 
 // The lowest free slot that can be used again, or 0.
@@ -176,7 +179,7 @@ pub fn slot_named(m: &[u8], id: u32) -> u32
     ensures { λ r. ⌜ r ≡ slotNamed (modelOf (now (m .entry))) id ⌝ }
 {
     let s = tables::slot_count(m);
-    let n = id % 65536;
+    let n = id % rules::GENERATION_UNIT;
     if n == 0 {
         return 0;
     }
@@ -187,7 +190,7 @@ pub fn slot_named(m: &[u8], id: u32) -> u32
     if words::word(m, at + 1) != 1 {
         return 0;
     }
-    if words::word(m, at) != id / 65536 {
+    if words::word(m, at) != id / rules::GENERATION_UNIT {
         return 0;
     }
     n

@@ -24,8 +24,8 @@ abbrev pub noNext : Answer
 noNext = record { status = internalError; value = 0; next = 0 }
 
 -- and are left byte for byte as they were
-unfoldable pub entry : List ℕ → Call → List ℕ → Reply
-entry bs call priorities = choose (agreesBytes bs) (reply (perform (modelOf bs) call priorities)) (record { answer = noNext; bytes = bs })
+unfoldable pub replyTo : List ℕ → Call → List ℕ → Reply
+replyTo bs call priorities = choose (agreesBytes bs) (reply (perform (modelOf bs) call priorities)) (record { answer = noNext; bytes = bs })
 
 -- an answer and the bytes after it are a reply
 pub record Replied (r : Answer) (bs : List ℕ) (to : Reply) : Type 0 where
@@ -33,5 +33,5 @@ pub record Replied (r : Answer) (bs : List ℕ) (to : Reply) : Type 0 where
   pub bytes : bs ≡ to .bytes
 
 -- a task's answer, with the same test
-unfoldable pub taskEntry : List ℕ → ℕ → Answer
-taskEntry bs q = choose (agreesBytes bs) (taskAnswer (modelOf bs) q) noNext
+unfoldable pub taskReply : List ℕ → ℕ → Answer
+taskReply bs q = choose (agreesBytes bs) (taskAnswer (modelOf bs) q) noNext

@@ -5,20 +5,20 @@ use rules::Wait;
 ghost use mathlib.Core.Path.{_≡_};
 ghost use mathlib.Core.List.{[]};
 ghost use Rattle.rules.specs.declared.Call.the-variants.{Start, Create, Ident, Delete, Obtain, Release, Flush, Tick};
-ghost use Rattle.manager.specs.Entry.{Replied, noNext, entry, taskEntry};
+ghost use Rattle.manager.specs.Entry.{Replied, noNext, replyTo, taskReply};
 
 fn internal_error() -> Answer
     ensures { λ r. ⌜ r ≡ noNext ⌝ }
 {
     Answer {
-        status: 25,
+        status: rules::INTERNAL_ERROR,
         value: 0,
         next: 0,
     }
 }
 
 pub fn start(m: &mut [u8], slots: u32, priorities: &[u32]) -> Answer
-    ensures { λ r. ⌜ Replied r (now (m .exit)) (entry (now (m .entry)) (Start slots) (now (priorities .entry))) ⌝ }
+    ensures { λ r. ⌜ Replied r (now (m .exit)) (replyTo (now (m .entry)) (Start slots) (now (priorities .entry))) ⌝ }
 {
     if !agreement::is_agreeing(m) {
         return internal_error();
@@ -27,7 +27,7 @@ pub fn start(m: &mut [u8], slots: u32, priorities: &[u32]) -> Answer
 }
 
 pub fn create(m: &mut [u8], caller: u32, name: u32, count: u32, attributes: u32) -> Answer
-    ensures { λ r. ⌜ Replied r (now (m .exit)) (entry (now (m .entry)) (Create caller name count attributes) []) ⌝ }
+    ensures { λ r. ⌜ Replied r (now (m .exit)) (replyTo (now (m .entry)) (Create caller name count attributes) []) ⌝ }
 {
     if !agreement::is_agreeing(m) {
         return internal_error();
@@ -36,7 +36,7 @@ pub fn create(m: &mut [u8], caller: u32, name: u32, count: u32, attributes: u32)
 }
 
 pub fn ident(m: &[u8], name: u32) -> Answer
-    ensures { λ r. ⌜ Replied r (now (m .entry)) (entry (now (m .entry)) (Ident name) []) ⌝ }
+    ensures { λ r. ⌜ Replied r (now (m .entry)) (replyTo (now (m .entry)) (Ident name) []) ⌝ }
 {
     if !agreement::is_agreeing(m) {
         return internal_error();
@@ -45,7 +45,7 @@ pub fn ident(m: &[u8], name: u32) -> Answer
 }
 
 pub fn delete(m: &mut [u8], caller: u32, id: u32) -> Answer
-    ensures { λ r. ⌜ Replied r (now (m .exit)) (entry (now (m .entry)) (Delete caller id) []) ⌝ }
+    ensures { λ r. ⌜ Replied r (now (m .exit)) (replyTo (now (m .entry)) (Delete caller id) []) ⌝ }
 {
     if !agreement::is_agreeing(m) {
         return internal_error();
@@ -54,7 +54,7 @@ pub fn delete(m: &mut [u8], caller: u32, id: u32) -> Answer
 }
 
 pub fn obtain(m: &mut [u8], caller: u32, id: u32, wait: Wait) -> Answer
-    ensures { λ r. ⌜ Replied r (now (m .exit)) (entry (now (m .entry)) (Obtain caller id wait) []) ⌝ }
+    ensures { λ r. ⌜ Replied r (now (m .exit)) (replyTo (now (m .entry)) (Obtain caller id wait) []) ⌝ }
 {
     if !agreement::is_agreeing(m) {
         return internal_error();
@@ -63,7 +63,7 @@ pub fn obtain(m: &mut [u8], caller: u32, id: u32, wait: Wait) -> Answer
 }
 
 pub fn release(m: &mut [u8], caller: u32, id: u32) -> Answer
-    ensures { λ r. ⌜ Replied r (now (m .exit)) (entry (now (m .entry)) (Release caller id) []) ⌝ }
+    ensures { λ r. ⌜ Replied r (now (m .exit)) (replyTo (now (m .entry)) (Release caller id) []) ⌝ }
 {
     if !agreement::is_agreeing(m) {
         return internal_error();
@@ -72,7 +72,7 @@ pub fn release(m: &mut [u8], caller: u32, id: u32) -> Answer
 }
 
 pub fn flush(m: &mut [u8], caller: u32, id: u32) -> Answer
-    ensures { λ r. ⌜ Replied r (now (m .exit)) (entry (now (m .entry)) (Flush caller id) []) ⌝ }
+    ensures { λ r. ⌜ Replied r (now (m .exit)) (replyTo (now (m .entry)) (Flush caller id) []) ⌝ }
 {
     if !agreement::is_agreeing(m) {
         return internal_error();
@@ -81,7 +81,7 @@ pub fn flush(m: &mut [u8], caller: u32, id: u32) -> Answer
 }
 
 pub fn tick(m: &mut [u8]) -> Answer
-    ensures { λ r. ⌜ Replied r (now (m .exit)) (entry (now (m .entry)) Tick []) ⌝ }
+    ensures { λ r. ⌜ Replied r (now (m .exit)) (replyTo (now (m .entry)) Tick []) ⌝ }
 {
     if !agreement::is_agreeing(m) {
         return internal_error();
@@ -91,7 +91,7 @@ pub fn tick(m: &mut [u8]) -> Answer
 
 // The latest answer of a task, 100 while it waits: how a woken task learns how its wait ended.
 pub fn task(m: &[u8], q: u32) -> Answer
-    ensures { λ r. ⌜ r ≡ taskEntry (now (m .entry)) q ⌝ }
+    ensures { λ r. ⌜ r ≡ taskReply (now (m .entry)) q ⌝ }
 {
     if !agreement::is_agreeing(m) {
         return internal_error();
@@ -101,7 +101,7 @@ pub fn task(m: &[u8], q: u32) -> Answer
 
 // A call as an enum, with the priorities that a start takes beside it.
 pub fn call(m: &mut [u8], c: Call, priorities: &[u32]) -> Answer
-    ensures { λ r. ⌜ Replied r (now (m .exit)) (entry (now (m .entry)) c (now (priorities .entry))) ⌝ }
+    ensures { λ r. ⌜ Replied r (now (m .exit)) (replyTo (now (m .entry)) c (now (priorities .entry))) ⌝ }
 {
     match c {
         Call::Start { slots } => start(m, slots, priorities),

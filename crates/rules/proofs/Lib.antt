@@ -5,3 +5,5 @@ pub mod Performed
 pub mod Refusals
 pub mod Statuses
 pub mod Next
+pub mod Invariants
+pub mod History

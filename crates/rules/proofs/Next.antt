@@ -10,8 +10,9 @@ use lib.Dec.{ltb}
 use lib.ListN.{length, getD, drop, length-drop}
 use lib.Seq.{drop-cons}
 use borrow.Author.Tests.{ltb-true, ltb-false, leb-true}
-use Rattle.laws.specs.Choose.{choose, _and_, isnt, and-both, both-and, isnt-false, false-isnt, tested, never, if-yes, if-no}
-use Rattle.laws.specs.All.{all-at}
+use Rattle.laws.specs.Choose.{choose, _and_, isnt}
+use Rattle.laws.proofs.Choose.{and-both, both-and, isnt-false, false-isnt, tested, never, if-yes, if-no}
+use Rattle.laws.proofs.All.{all-at}
 use Rattle.rules.specs.declared.Task.{Task}
 use Rattle.rules.specs.Numbers.{maxPriority}
 use Rattle.rules.specs.Machine.{Tables, noTask, taskOf, waits, mostUrgent, next}

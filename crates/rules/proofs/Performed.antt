@@ -5,13 +5,14 @@ use mathlib.Core.List.{List}
 use Prim.Native.Nat.{ℕ}
 use lib.Dec.{eqb}
 use borrow.Author.Tests.{eqb-false}
-use Rattle.laws.specs.Choose.{choose, choose-cases, never}
+use Rattle.laws.specs.Choose.{choose}
+use Rattle.laws.proofs.Choose.{choose-cases, never}
 use Rattle.rules.specs.Numbers.{invalidName}
 use Rattle.rules.specs.declared.Call.{Call}
 use Rattle.rules.specs.declared.Call.the-variants.{Start, Create, Ident, Delete, Obtain, Release, Flush, Tick}
 use Rattle.rules.specs.declared.Wait.{Wait}
 use Rattle.rules.specs.Machine.{Slot, Tables}
-use Rattle.rules.specs.Semaphore.{Given, giveStep}
+use Rattle.rules.specs.Semaphore.{Given, giveStep, passStep}
 use Rattle.rules.specs.Calls.{Outcome, answered, refused, unless, startRefusal, start, createRefusal, create, ident, deleteRefusal, delete, obtainRefusal, obtain, releaseRefusal, release, flushRefusal, flush, tick, perform}
 use Rattle.rules.specs.Promises.{valued, given, isIn}
 
@@ -50,7 +51,7 @@ module _ (t : Tables) where
   obtains caller id wait = search choose-in depth 12
 
   gives : (s : Slot) (caller id : ℕ) → isIn (giveStep s caller .status) (given (Release caller id)) ≡ true
-  unfolding choose isIn given giveStep
+  unfolding choose isIn given giveStep passStep
   gives s caller id = search given-in depth 12
 
   releases : (caller id : ℕ) → isIn (releaseRefusal t caller id) (given (Release caller id)) ≡ true

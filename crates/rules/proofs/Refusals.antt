@@ -4,7 +4,8 @@ use mathlib.Core.Bool.{true, false}
 use mathlib.Core.List.{List}
 use mathlib.Core.Logic.{_↔_, ⊎-elim}
 use Prim.Native.Nat.{ℕ}
-use Rattle.laws.specs.Choose.{choose, choose-cases, if-eq, if-ne, tested, never}
+use Rattle.laws.specs.Choose.{choose}
+use Rattle.laws.proofs.Choose.{choose-cases, if-eq, if-ne, tested, never}
 use Rattle.rules.specs.declared.Call.{Call}
 use Rattle.rules.specs.declared.Call.the-variants.{Start, Create, Ident, Delete, Obtain, Release, Flush, Tick}
 use Rattle.rules.specs.Machine.{Tables, next}

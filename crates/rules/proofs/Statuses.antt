@@ -6,7 +6,8 @@ use mathlib.Core.Logic.{⊎-elim}
 use Prim.Native.Nat.{ℕ}
 use lib.Dec.{eqb}
 use borrow.Author.Tests.{eqb-true, eq-eqb}
-use Rattle.laws.specs.Choose.{choose, _and_, and-both, or-either, or-first, or-second, tested}
+use Rattle.laws.specs.Choose.{choose, _and_}
+use Rattle.laws.proofs.Choose.{and-both, or-either, or-first, or-second, tested}
 use Rattle.rules.specs.declared.Call.{Call}
 use Rattle.rules.specs.declared.Call.the-variants.{Start, Create, Ident, Delete, Obtain, Release, Flush, Tick}
 use Rattle.rules.specs.Machine.{Tables, unstarted, freeSlot}

@@ -32,24 +32,81 @@ abbrev pub isWaiter : Tables → ℕ → ℕ → Bool
 isWaiter t id q = within 1 (length (t .tasks)) q and waits (taskOf t q) and eqb (taskOf t q .awaited) id
 
 -- N and S: both 0 before start
+abbrev pub countsFit : ℕ → ℕ → Bool
+countsFit N S = (eqb N 0 and eqb S 0) or (within 1 maxTasks N and within 1 maxSlots S)
+
+-- ---- what is asked of one task q, v in the tables, and of one slot
+
+-- its numbers are within their limits
+abbrev pub taskInLimits : Task → Bool
+taskInLimits v = within 1 maxPriority (v .priority) and leb (v .awaited) maxNumber and leb (v .ticks) maxNumber
+
+-- the endings of a wait, and the answer at start
+abbrev pub isEnding : ℕ → Bool
+isEnding a = eqb a 0 or eqb a 6 or eqb a 7 or eqb a 13
+
+-- a waiting task's answer is 100 (that is what waiting is), a ready task's 0, 6, 7 or 13
+abbrev pub answerFits : Task → Bool
+answerFits v = waits v or isEnding (v .answer)
+
+-- it stands once in the queue of the live semaphore it waits on
+abbrev pub isQueuedOnce : Tables → ℕ → ℕ → Bool
+isQueuedOnce t q id = names t id and eqb (occurs q (slotOf t (id % 65536) .queue)) 1
+
+-- 0 ticks left, and 0 as the identifier waited on
+abbrev pub isAtRest : Task → Bool
+isAtRest v = eqb (v .ticks) 0 and eqb (v .awaited) 0
+
+abbrev pub slotInLimits : Slot → Bool
+slotInLimits s =
+    leb (s .generation) maxGeneration and leb (s .live) 1 and leb (s .name) maxNumber and leb (s .count) maxNumber
+    and leb (s .nest) maxNumber
+
+-- a generation of at least 1 and a name other than 0
+abbrev pub isNamedRight : Slot → Bool
+isNamedRight s = leb 1 (s .generation) and isnt (eqb (s .name) 0)
+
+-- all of a queue are tasks that wait on the identifier
+abbrev pub allWaitOn : Tables → ℕ → List ℕ → Bool
+allWaitOn t id queue = all (length queue) (λ k. isWaiter t id (getD queue k 0))
+
+-- a queue is in order of priority number
+abbrev pub isOrdered : Tables → List ℕ → Bool
+isOrdered t queue = all (pred (length queue)) (λ k. leb (urgency t (getD queue k 0)) (urgency t (getD queue (suc k) 0)))
+
+abbrev pub isZeroWhereQueued : Slot → Bool
+isZeroWhereQueued s = when (leb 1 (length (s .queue))) (eqb (s .count) 0)
+
+-- count 1, owner 0, nest 0, or count 0, an owner in 1..N who is not in its queue, nest at least 1
+abbrev pub isOwnedRight : ℕ → Slot → Bool
+isOwnedRight N s =
+    (eqb (s .count) 1 and eqb (s .owner) 0 and eqb (s .nest) 0)
+    or (eqb (s .count) 0 and within 1 N (s .owner) and eqb (occurs (s .owner) (s .queue)) 0 and leb 1 (s .nest))
+
+-- owner 0 and nest 0, simple binary a count of at most 1
+abbrev pub isUnowned : Slot → Bool
+isUnowned s = eqb (s .owner) 0 and eqb (s .nest) 0 and when (isSimple (s .attributes)) (leb (s .count) 1)
+
+-- 0 but for the generation
+abbrev pub isClear : Slot → Bool
+isClear s =
+    eqb (s .name) 0 and eqb (s .attributes) 0 and eqb (s .count) 0 and eqb (s .owner) 0 and eqb (s .nest) 0
+    and eqb (length (s .queue)) 0
+
+-- ---- the clauses
+
 unfoldable pub sizesFit : Tables → Bool
-sizesFit t =
-    (eqb (length (t .tasks)) 0 and eqb (length (t .slots)) 0)
-    or (within 1 maxTasks (length (t .tasks)) and within 1 maxSlots (length (t .slots)))
+sizesFit t = countsFit (length (t .tasks)) (length (t .slots))
 
 -- every other number is within its limits; those of answers, attributes, owners and queues follow from the clauses below
 unfoldable pub numbersFit : Tables → Bool
-numbersFit t =
-    eachTask t (λ q v. within 1 maxPriority (v .priority) and leb (v .awaited) maxNumber and leb (v .ticks) maxNumber)
-    and eachSlot t (λ n s. leb (s .generation) maxGeneration and leb (s .live) 1 and leb (s .name) maxNumber and leb (s .count) maxNumber and leb (s .nest) maxNumber)
+numbersFit t = eachTask t (λ q v. taskInLimits v) and eachSlot t (λ n s. slotInLimits s)
 
--- a waiting task's answer is 100 (that is what waiting is), a ready task's 0, 6, 7 or 13
 unfoldable pub answersFit : Tables → Bool
-answersFit t = eachTask t (λ q v. waits v or eqb (v .answer) 0 or eqb (v .answer) 6 or eqb (v .answer) 7 or eqb (v .answer) 13)
+answersFit t = eachTask t (λ q v. answerFits v)
 
--- live slots have a generation of at least 1 and a name other than 0
 unfoldable pub liveNamed : Tables → Bool
-liveNamed t = eachLive t (λ n s. leb 1 (s .generation) and isnt (eqb (s .name) 0))
+liveNamed t = eachLive t (λ n s. isNamedRight s)
 
 -- a live slot's attributes are ones create allows
 unfoldable pub attributesAllowed : Tables → Bool
@@ -57,46 +114,31 @@ attributesAllowed t = eachLive t (λ n s. allowed (s .attributes))
 
 -- each waiting task stands once, in the queue of the live semaphore it waits on
 unfoldable pub waitersQueued : Tables → Bool
-waitersQueued t =
-    eachTask t (λ q v. when (waits v) (names t (v .awaited) and eqb (occurs q (slotOf t (v .awaited % 65536) .queue)) 1))
+waitersQueued t = eachTask t (λ q v. when (waits v) (isQueuedOnce t q (v .awaited)))
 
 -- queues hold nothing else
 unfoldable pub queuesWait : Tables → Bool
-queuesWait t =
-    eachLive t (λ n s. all (length (s .queue)) (λ k. isWaiter t (idOf n s) (getD (s .queue) k 0)))
+queuesWait t = eachLive t (λ n s. allWaitOn t (idOf n s) (s .queue))
 
 -- a queue with PRIORITY is in order of priority number
 unfoldable pub queuesOrdered : Tables → Bool
-queuesOrdered t =
-    eachLive t (λ n s. when (byPriority (s .attributes))
-    (all (pred (length (s .queue))) (λ k. leb (urgency t (getD (s .queue) k 0)) (urgency t (getD (s .queue) (suc k) 0)))))
+queuesOrdered t = eachLive t (λ n s. when (byPriority (s .attributes)) (isOrdered t (s .queue)))
 
 -- a non-empty queue means count 0
 unfoldable pub queuedAtZero : Tables → Bool
-queuedAtZero t = eachLive t (λ n s. when (leb 1 (length (s .queue))) (eqb (s .count) 0))
+queuedAtZero t = eachLive t (λ n s. isZeroWhereQueued s)
 
--- a binary semaphore has count 1, owner 0, nest 0, or count 0, an owner in 1..N who is not in its queue, nest at least 1
 unfoldable pub binariesOwned : Tables → Bool
-binariesOwned t =
-    eachLive t (λ n s. when (isBinary (s .attributes))
-    ((eqb (s .count) 1 and eqb (s .owner) 0 and eqb (s .nest) 0)
-    or (eqb (s .count) 0 and within 1 (length (t .tasks)) (s .owner) and eqb (occurs (s .owner) (s .queue)) 0 and leb 1 (s .nest))))
+binariesOwned t = eachLive t (λ n s. when (isBinary (s .attributes)) (isOwnedRight (length (t .tasks)) s))
 
--- the other classes have owner 0 and nest 0, simple binary a count of at most 1
 unfoldable pub othersUnowned : Tables → Bool
-othersUnowned t =
-    eachLive t (λ n s. when (isnt (isBinary (s .attributes)))
-    (eqb (s .owner) 0 and eqb (s .nest) 0 and when (isSimple (s .attributes)) (leb (s .count) 1)))
+othersUnowned t = eachLive t (λ n s. when (isnt (isBinary (s .attributes))) (isUnowned s))
 
--- ready tasks have 0 ticks left and 0 as the identifier waited on
 unfoldable pub readyAtRest : Tables → Bool
-readyAtRest t = eachTask t (λ q v. when (isnt (waits v)) (eqb (v .ticks) 0 and eqb (v .awaited) 0))
+readyAtRest t = eachTask t (λ q v. when (isnt (waits v)) (isAtRest v))
 
--- free slots are 0 but for the generation
 unfoldable pub freeSlotsClear : Tables → Bool
-freeSlotsClear t =
-    eachSlot t (λ n s. when (isnt (isLive s))
-    (eqb (s .name) 0 and eqb (s .attributes) 0 and eqb (s .count) 0 and eqb (s .owner) 0 and eqb (s .nest) 0 and eqb (length (s .queue)) 0))
+freeSlotsClear t = eachSlot t (λ n s. when (isnt (isLive s)) (isClear s))
 
 -- the tables agree: every clause holds
 pub record Agrees (t : Tables) : Type 0 where

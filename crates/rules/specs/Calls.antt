@@ -1,5 +1,5 @@
 -- Document 01: the eight calls, step by step, and the whole step with the test for 25. Checks give a status, or 0 for no refusal.
--- The numbers of a call are those of 32 bits; nothing here depends on that, and `callFits` of crates/invariants says it.
+-- The numbers of a call are those of 32 bits; nothing here depends on that, and `callFits` of specs/Fits.antt says it.
 use mathlib.Core.Bool.{Bool}
 use mathlib.Core.List.{List, [], _∷_, map}
 use Prim.Native.Nat.{ℕ, suc, _+_, _-_, _%_}
@@ -13,9 +13,9 @@ use Rattle.rules.specs.declared.Call.{Call}
 use Rattle.rules.specs.declared.Call.the-variants.{Start, Create, Ident, Delete, Obtain, Release, Flush, Tick}
 use Rattle.rules.specs.declared.Answer.{Answer}
 use Rattle.rules.specs.Numbers.{maxTasks, maxSlots, maxPriority, maxGeneration, within, allowed, isBinary, isSimple, successful, invalidName, invalidId, tooMany, timeout, objectWasDeleted, invalidNumber, notDefined, resourceInUse, unsatisfied, incorrectState, calledFromIsr, invalidPriority, internalError, waiting}
-use Rattle.rules.specs.Machine.{Slot, Tables, freeSlot, taskOf, slotOf, putTask, putSlot, waits, isLive, urgency, idOf, names, slotNamed, next}
+use Rattle.rules.specs.Machine.{Slot, Tables, freeSlot, withTasks, withSlots, taskOf, slotOf, putTask, putSlot, waits, isLive, urgency, idOf, names, slotNamed, next}
 use Rattle.rules.specs.Agreement.{agrees}
-use Rattle.rules.specs.Semaphore.{ticksOf, placeOf, takeStep, giveStep, flushStep}
+use Rattle.rules.specs.Semaphore.{ticksOf, placeOf, requeued, takeStep, giveStep, flushStep}
 
 pub record Outcome : Type 0 where
   pub answer : Answer
@@ -204,11 +204,11 @@ stillWaiting t [] = []
 stillWaiting t (q ∷ qs) = let rest = stillWaiting t qs in choose (expires (taskOf t q)) rest (q ∷ rest)
 
 unfoldable pub tickedSlot : Tables → Slot → Slot
-tickedSlot t s =
-    record { generation = s .generation; live = s .live; name = s .name; attributes = s .attributes; count = s .count; owner = s .owner; nest = s .nest; queue = stillWaiting t (s .queue) }
+tickedSlot t s = requeued s (stillWaiting t (s .queue))
 
+-- queues lose the tasks whose wait ends, and each task is a tick later
 unfoldable pub tick : Tables → Outcome
-tick t = answered successful 0 (record { tasks = map ticked (t .tasks); slots = map (tickedSlot t) (t .slots) })
+tick t = answered successful 0 (withSlots (withTasks t (map ticked (t .tasks))) (map (tickedSlot t) (t .slots)))
 
 -- ---- the whole step
 

@@ -5,3 +5,4 @@ pub mod Semaphore
 pub mod Calls
 pub mod Runs
 pub mod Promises
+pub mod Fits

@@ -32,6 +32,13 @@ pub record Tables : Type 0 where
 abbrev pub unstarted : Tables
 unstarted = record { tasks = []; slots = [] }
 
+-- the same tables with other tasks, and with other slots
+abbrev pub withTasks : Tables → List Task → Tables
+withTasks t tasks = record { tasks = tasks; slots = t .slots }
+
+abbrev pub withSlots : Tables → List Slot → Tables
+withSlots t slots = record { tasks = t .tasks; slots = slots }
+
 -- what a look beyond N or S finds
 abbrev pub noTask : Task
 noTask = record { priority = 0; answer = 0; awaited = 0; ticks = 0 }
@@ -46,10 +53,10 @@ abbrev pub slotOf : Tables → ℕ → Slot
 slotOf t n = getD (t .slots) (pred n) (freeSlot 0)
 
 abbrev pub putTask : Tables → ℕ → Task → Tables
-putTask t q v = record { tasks = set (t .tasks) (pred q) v; slots = t .slots }
+putTask t q v = withTasks t (set (t .tasks) (pred q) v)
 
 abbrev pub putSlot : Tables → ℕ → Slot → Tables
-putSlot t n s = record { tasks = t .tasks; slots = set (t .slots) (pred n) s }
+putSlot t n s = withSlots t (set (t .slots) (pred n) s)
 
 -- a task waits exactly while its answer is 100
 abbrev pub waits : Task → Bool

@@ -3,6 +3,53 @@ ghost use mathlib.Core.Path.{_≡_};
 ghost use Rattle.rules.specs.Numbers.{allowed, byPriority, isBinary, isSimple};
 ghost use Rattle.rules.specs.Semaphore.{waitOf};
 
+// Status numbers: those of the RTEMS Classic headers, and our own 100.
+pub const SUCCESSFUL: u32 = 0;
+
+pub const INVALID_NAME: u32 = 3;
+
+pub const INVALID_ID: u32 = 4;
+
+pub const TOO_MANY: u32 = 5;
+
+pub const TIMEOUT: u32 = 6;
+
+pub const OBJECT_WAS_DELETED: u32 = 7;
+
+pub const INVALID_NUMBER: u32 = 10;
+
+pub const NOT_DEFINED: u32 = 11;
+
+pub const RESOURCE_IN_USE: u32 = 12;
+
+pub const UNSATISFIED: u32 = 13;
+
+pub const INCORRECT_STATE: u32 = 14;
+
+pub const CALLED_FROM_ISR: u32 = 18;
+
+pub const INVALID_PRIORITY: u32 = 19;
+
+pub const NOT_OWNER_OF_RESOURCE: u32 = 23;
+
+pub const INTERNAL_ERROR: u32 = 25;
+
+pub const WAITING: u32 = 100;
+
+// Limits.
+pub const MAX_TASKS: u32 = 32;
+
+pub const MAX_SLOTS: u32 = 64;
+
+pub const MAX_PRIORITY: u32 = 255;
+
+pub const MAX_GENERATION: u32 = 65535;
+
+pub const MAX_NUMBER: u32 = 4294967295;
+
+// An identifier is its generation times this, and its slot.
+pub const GENERATION_UNIT: u32 = 65536;
+
 // A task: ready or waiting. Its answer is 100 exactly while it waits, else the ending of its latest wait.
 pub struct Task {
     pub priority: u32,

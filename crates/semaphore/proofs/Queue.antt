@@ -8,9 +8,10 @@ use native.Mathlib.Numerals.{add-one, sub-one}
 use native.Mathlib.Omega.{arith}
 use lib.ListN.{length, getD, set, take, drop, length-append, length-take, length-drop}
 use lib.Seq.{take-all, take-suc, getD-drop}
-use Rattle.laws.specs.Choose.{choose, if-yes, if-no, choose-cases}
+use Rattle.laws.specs.Choose.{choose}
+use Rattle.laws.proofs.Choose.{if-yes, if-no, choose-cases}
 use Rattle.laws.specs.Rows.{fit}
-use Rattle.laws.specs.FitLaws.{take-fit, set-fit-next}
+use Rattle.laws.proofs.Fit.{take-fit, set-fit-next}
 use Rattle.rules.specs.Machine.{Tables, taskOf}
 use Rattle.rules.specs.Semaphore.{insertAt}
 use Rattle.rules.specs.Calls.{expires, stillWaiting}

@@ -7,18 +7,19 @@ use native.Mathlib.Omega.{arith}
 use lib.ListN.{length, getD, take, drop, length-take, length-drop}
 use lib.Dec.{eqb}
 use borrow.Author.Tests.{eq-eqb, le-leb, lt-leb}
-use Rattle.laws.specs.Choose.{_and_, isnt, if-yes, if-no, if-le, if-not-le, if-eq, if-ne, choose-same, both-and, and-both, false-isnt}
+use Rattle.laws.specs.Choose.{_and_, isnt}
+use Rattle.laws.proofs.Choose.{if-yes, if-no, if-le, if-not-le, if-eq, if-ne, choose-same, both-and, and-both, false-isnt}
 use Rattle.laws.specs.Rows.{fit}
-use Rattle.laws.specs.FitLaws.{length-fit}
+use Rattle.laws.proofs.Fit.{length-fit}
 use Rattle.rules.specs.declared.Wait.{Wait}
 use Rattle.rules.specs.Machine.{Slot}
 use Rattle.rules.specs.Numbers.{isBinary, maximum}
-use Rattle.rules.specs.Semaphore.{insertAt, ownedBy, polls, takeStep, giveStep}
+use Rattle.rules.specs.Semaphore.{insertAt, requeued, ownedBy, polls, takeStep, passStep, giveStep}
 use Rattle.rules.specs.Semaphore as rules
 use Rattle.rules.specs.Calls.{newSemaphore}
 use Rattle.semaphore.specs.declared.Semaphore.{Semaphore}
 use Rattle.semaphore.specs.declared.Given.{Given}
-use Rattle.semaphore.specs.Record.{slotFrom, requeued, counting, queueing, Padded, Stands, TakenIs, GivenIs, passStep}
+use Rattle.semaphore.specs.Record.{slotFrom, counting, queueing, Padded, Stands, TakenIs, GivenIs}
 use Rattle.semaphore.proofs.Queue.{held, insert-fit, length-insert, drop-fit}
 
 -- the tasks that wait

@@ -20,10 +20,6 @@ abbrev pub slotFrom : Semaphore → Slot
 slotFrom s =
     record { generation = s .generation; live = s .live; name = s .name; attributes = s .attributes; count = s .count; owner = s .owner; nest = s .nest; queue = take (s .waiters) (s .queue) }
 
--- the slot with another queue
-abbrev pub requeued : Slot → List ℕ → Slot
-requeued s qs = rules.counted s (s .count) (s .owner) (s .nest) qs
-
 -- the queue has at most 32 waiters, and 0 behind them
 pub record Padded (s : Semaphore) : Type 0 where
   pub few : s .waiters ≤ 32
@@ -62,15 +58,6 @@ abbrev pub freeRecord : ℕ → Semaphore
 freeRecord g =
     record { generation = g; live = 0; name = 0; attributes = 0; count = 0; owner = 0; nest = 0; waiters = 0; queue = fit 32 0 [] }
 
--- a release where the caller may give, and holds a binary semaphore once
-unfoldable pub passStep : Slot → rules.Given
-passStep s =
-    choose (leb 1 (length (s .queue)))
-    (record { status = successful; slot = rules.handed s (getD (s .queue) 0 0); woken = getD (s .queue) 0 0 })
-    (choose (eqb (s .count) (maximum (s .attributes)))
-    (record { status = unsatisfied; slot = s; woken = 0 })
-    (record { status = successful; slot = rules.counted s (s .count + 1) 0 0 (s .queue); woken = 0 }))
-
 -- ---- a queue without the tasks whose wait has ended
 
 -- the waiters are numbers of tasks
@@ -84,7 +71,7 @@ keep expired [] = []
 keep expired (q ∷ qs) = let rest = keep expired qs in choose (getD expired (pred q) false) rest (q ∷ rest)
 
 abbrev pub slotKeeping : Slot → List Bool → Slot
-slotKeeping s expired = requeued s (keep expired (s .queue))
+slotKeeping s expired = rules.requeued s (keep expired (s .queue))
 
 -- the queue in code has these waiters, and 0 behind them
 pub record KeptIs (r : Kept) (qs : List ℕ) : Type 0 where

@@ -6,10 +6,10 @@ ghost use lib.ListN.{length, take, drop};
 ghost use Rattle.laws.specs.Choose.{_and_};
 ghost use Rattle.laws.specs.Rows.{fit};
 ghost use Rattle.rules.specs.Machine.{freeSlot};
-ghost use Rattle.rules.specs.Semaphore.{insertAt, ownedBy, polls, takeStep, giveStep, flushStep};
+ghost use Rattle.rules.specs.Semaphore.{insertAt, ownedBy, polls, takeStep, passStep, giveStep, flushStep};
 ghost use Rattle.rules.specs.Calls.{newSemaphore};
 ghost use Rattle.rules.specs.Numbers.{isBinary, maximum};
-ghost use Rattle.semaphore.specs.Record.{slotFrom, counting, queueing, freeRecord, Padded, TasksOnly, Stands, TakenIs, GivenIs, FlushedIs, passStep, keep, KeptIs, slotKeeping};
+ghost use Rattle.semaphore.specs.Record.{slotFrom, counting, queueing, freeRecord, Padded, TasksOnly, Stands, TakenIs, GivenIs, FlushedIs, keep, KeptIs, slotKeeping};
 
 pub struct Semaphore {
     pub generation: u32,
@@ -67,13 +67,10 @@ fn maximum(attributes: u32) -> u32
     if rules::is_binary(attributes) {
         return 1;
     }
-    if attributes == 32 {
+    if rules::is_simple(attributes) {
         return 1;
     }
-    if attributes == 36 {
-        return 1;
-    }
-    4294967295
+    rules::MAX_NUMBER
 }
 
 // The queue with task q at `place`, and those behind it one place further.
@@ -174,38 +171,22 @@ pub fn created(generation: u32, caller: u32, name: u32, count: u32, attributes: 
 
 impl Semaphore {
     // The same semaphore with another count, owner and nest.
-    fn counted(self, count: u32, owner: u32, nest: u32) -> Semaphore
+    fn counted(mut self, count: u32, owner: u32, nest: u32) -> Semaphore
         ensures { λ r. ⌜ r ≡ counting self count owner nest ⌝ }
     {
-        let queue = self.queue;
-        Semaphore {
-            generation: self.generation,
-            live: self.live,
-            name: self.name,
-            attributes: self.attributes,
-            count: count,
-            owner: owner,
-            nest: nest,
-            waiters: self.waiters,
-            queue: queue,
-        }
+        self.count = count;
+        self.owner = owner;
+        self.nest = nest;
+        self
     }
 
     // The same semaphore with another queue.
-    fn queued(self, waiters: u32, queue: [u32; 32]) -> Semaphore
+    fn queued(mut self, waiters: u32, queue: [u32; 32]) -> Semaphore
         ensures { λ r. ⌜ r ≡ queueing self waiters queue ⌝ }
     {
-        Semaphore {
-            generation: self.generation,
-            live: self.live,
-            name: self.name,
-            attributes: self.attributes,
-            count: self.count,
-            owner: self.owner,
-            nest: self.nest,
-            waiters: waiters,
-            queue: queue,
-        }
+        self.waiters = waiters;
+        self.queue = queue;
+        self
     }
 
     // Whether a binary semaphore is the caller's; caller 0 owns nothing.
@@ -233,32 +214,32 @@ impl Semaphore {
             if rules::is_binary(self.attributes) {
                 let owned = self.counted(self.count - 1, caller, 1);
                 return Taken {
-                    status: 0,
+                    status: rules::SUCCESSFUL,
                     semaphore: owned,
                 };
             }
             let passed = self.counted(self.count - 1, self.owner, self.nest);
             return Taken {
-                status: 0,
+                status: rules::SUCCESSFUL,
                 semaphore: passed,
             };
         }
         if self.is_held_by(caller) {
-            if self.nest == 4294967295 {
+            if self.nest == rules::MAX_NUMBER {
                 return Taken {
-                    status: 13,
+                    status: rules::UNSATISFIED,
                     semaphore: self,
                 };
             }
             let nested = self.counted(self.count, self.owner, self.nest + 1);
             return Taken {
-                status: 0,
+                status: rules::SUCCESSFUL,
                 semaphore: nested,
             };
         }
         if polls(wait) {
             return Taken {
-                status: 13,
+                status: rules::UNSATISFIED,
                 semaphore: self,
             };
         }
@@ -266,7 +247,7 @@ impl Semaphore {
         let longer = inserted(queue, place, caller);
         let joined = self.queued(self.waiters + 1, longer);
         Taken {
-            status: 100,
+            status: rules::WAITING,
             semaphore: joined,
         }
     }
@@ -284,13 +265,13 @@ impl Semaphore {
             if rules::is_binary(self.attributes) {
                 let handed = shorter.counted(self.count, first, 1);
                 return Given {
-                    status: 0,
+                    status: rules::SUCCESSFUL,
                     woken: first,
                     semaphore: handed,
                 };
             }
             return Given {
-                status: 0,
+                status: rules::SUCCESSFUL,
                 woken: first,
                 semaphore: shorter,
             };
@@ -298,14 +279,14 @@ impl Semaphore {
         let most = maximum(self.attributes);
         if self.count == most {
             return Given {
-                status: 13,
+                status: rules::UNSATISFIED,
                 woken: 0,
                 semaphore: self,
             };
         }
         let raised = self.counted(self.count + 1, 0, 0);
         Given {
-            status: 0,
+            status: rules::SUCCESSFUL,
             woken: 0,
             semaphore: raised,
         }
@@ -321,7 +302,7 @@ impl Semaphore {
         }
         if !self.is_held_by(caller) {
             return Given {
-                status: 23,
+                status: rules::NOT_OWNER_OF_RESOURCE,
                 woken: 0,
                 semaphore: self,
             };
@@ -329,7 +310,7 @@ impl Semaphore {
         if self.nest >= 2 {
             let inner = self.counted(self.count, self.owner, self.nest - 1);
             return Given {
-                status: 0,
+                status: rules::SUCCESSFUL,
                 woken: 0,
                 semaphore: inner,
             };

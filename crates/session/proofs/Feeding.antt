@@ -8,9 +8,9 @@ use native.Mathlib.Numerals.{add-one}
 use native.Mathlib.Omega.{arith}
 use lib.ListN.{length, getD, take, drop, length-append, take-append-drop, replicate}
 use lib.Seq.{take-suc, take-at, length-take-le}
-use Rattle.laws.specs.Choose.{if-eq, if-ne}
+use Rattle.laws.proofs.Choose.{if-eq, if-ne}
 use Rattle.rules.specs.Agreement.{Agrees}
-use Rattle.invariants.specs.Agreeing.{unstarted-agrees}
+use Rattle.rules.proofs.Invariants.Agreeing.{unstarted-agrees}
 use Rattle.tables.specs.Layout.{laid, tablesLength}
 use Rattle.tables.proofs.LawsStore.{laid-unstarted}
 use Rattle.line.specs.Print.{spliced}

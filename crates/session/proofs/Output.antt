@@ -9,7 +9,8 @@ use lib.Dec.{leb}
 use lib.ListN.{length, getD, take, drop, length-append, length-drop}
 use lib.Seq.{take-all, drop-length, drop-drop}
 use borrow.Author.Tests.{le-leb, lt-leb, leb-true}
-use Rattle.laws.specs.Choose.{choose, if-yes, if-no, choose-cases, and-both, both-and}
+use Rattle.laws.specs.Choose.{choose}
+use Rattle.laws.proofs.Choose.{if-yes, if-no, choose-cases, and-both, both-and}
 use Rattle.words.proofs.Laws.{Bytes}
 use Rattle.rules.specs.declared.Answer.{Answer}
 use Rattle.rules.specs.declared.Call.{Call}
@@ -20,15 +21,15 @@ use Rattle.rules.specs.Agreement.{Agrees}
 use Rattle.rules.specs.Semaphore.{waitOf}
 use Rattle.rules.specs.Calls.{perform, step}
 use Rattle.rules.specs.Runs.{Request}
-use Rattle.invariants.specs.Fits.{waitFits, callFits}
-use Rattle.invariants.specs.Agreeing.{agrees-true}
-use Rattle.invariants.specs.Kept.{kept}
+use Rattle.rules.specs.Fits.{waitFits, callFits}
+use Rattle.rules.proofs.Invariants.Agreeing.{agrees-true}
+use Rattle.rules.proofs.Invariants.Kept.{kept}
 use Rattle.tables.specs.Layout.{Holds, laid}
 use Rattle.tables.proofs.LawsTold.{isLaid-laid}
 use Rattle.tables.proofs.LawsRead.{modelOf-laid}
 use Rattle.answers.proofs.Laws.{holds}
 use Rattle.agreement.specs.Bytes.{agreesBytes}
-use Rattle.manager.specs.Entry.{Reply, Replied, reply, entry}
+use Rattle.manager.specs.Entry.{Reply, Replied, reply, replyTo}
 use Rattle.line.specs.Line.{fields, isNumber, areNumbers, numbers, requestOf, lineOf}
 use Rattle.line.specs.Print.{answerLine, badLine, spliced}
 use Rattle.session.specs.Session.{answerOf, answerTo}
@@ -90,10 +91,10 @@ module _ (t : Tables) (a : Agrees t) (bs : List ℕ) (e : bs ≡ laid t) (b : By
   unfolding agreesBytes
   passes = both-and (isLaid-laid t held) (rw (modelOf-laid t held) (agrees-true t a))
 
-  entry-is : (call : Call) (priorities : List ℕ) → entry bs call priorities ≡ reply (step t call priorities)
-  unfolding entry step
+  entry-is : (call : Call) (priorities : List ℕ) → replyTo bs call priorities ≡ reply (step t call priorities)
+  unfolding replyTo step
   entry-is call priorities =
-      ap (λ (l : List ℕ). entry l call priorities) e
+      ap (λ (l : List ℕ). replyTo l call priorities) e
       ∙ if-yes _ _ passes
       ∙ ap (λ (x : Tables). reply (perform x call priorities)) (modelOf-laid t held)
       ∙ ap reply (sym (if-yes _ _ (agrees-true t a)))
@@ -103,7 +104,7 @@ module _ (t : Tables) (a : Agrees t) (bs : List ℕ) (e : bs ≡ laid t) (b : By
     pub said-asked :
         (call : Call) (priorities : List ℕ) (r : Answer) (after out : List ℕ) (end : ℕ)
         → lineOf line ≡ some (record { call = call; priorities = priorities })
-        → Replied r after (entry bs call priorities)
+        → Replied r after (replyTo bs call priorities)
         → end ≡ at + length (answerLine r)
         → out ≡ spliced at (answerLine r) before
         → Said (answerTo t line) at end after before out
@@ -129,8 +130,8 @@ module _ (t : Tables) (a : Agrees t) (bs : List ℕ) (e : bs ≡ laid t) (b : By
 pub said-same : (t : Tables) {l l′ : List ℕ} → l ≡ l′ → {at end : ℕ} {bs before out : List ℕ} → Said (answerTo t l) at end bs before out → Said (answerTo t l′) at end bs before out
 said-same t e {at} {end} {bs} {before} {out} s = subst (λ (l : List ℕ). Said (answerTo t l) at end bs before out) e s
 
-pub replied-same : (bs : List ℕ) (call : Call) {p q : List ℕ} → p ≡ q → {r : Answer} {after : List ℕ} → Replied r after (entry bs call p) → Replied r after (entry bs call q)
-replied-same bs call e {r} {after} d = subst (λ (p : List ℕ). Replied r after (entry bs call p)) e d
+pub replied-same : (bs : List ℕ) (call : Call) {p q : List ℕ} → p ≡ q → {r : Answer} {after : List ℕ} → Replied r after (replyTo bs call p) → Replied r after (replyTo bs call q)
+replied-same bs call e {r} {after} d = subst (λ (p : List ℕ). Replied r after (replyTo bs call p)) e d
 
 -- what is written at the front of the rest of the output is written at its place
 module _ (at : ℕ) (xs out part : List ℕ) (k n : ℕ) (rest : k ≡ length out - at) (is : n ≡ length xs) (written : part ≡ xs ++ drop n (take k (drop at out))) where

@@ -7,7 +7,7 @@ use Prim.Native.Nat.{ℕ, suc}
 use native.Mathlib.Omega.{arith}
 use lib.Dec.{eqb}
 use lib.ListN.{length}
-use Rattle.laws.specs.Choose.{if-yes, if-no, if-ne, tested}
+use Rattle.laws.proofs.Choose.{if-yes, if-no, if-ne, tested}
 use Rattle.rules.specs.Machine.{Tables}
 use Rattle.line.specs.Line.{ontoFirst}
 use Rattle.session.specs.Session.{lines, Answered, answerTo, outputs, session}

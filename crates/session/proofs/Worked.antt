@@ -6,7 +6,7 @@ use Rattle.laws.specs.Choose.{choose}
 use Rattle.laws.specs.All.{all}
 use Rattle.rules.specs.Machine.{next, mostUrgent}
 use Rattle.rules.specs.Agreement.{occurs, sizesFit, numbersFit, answersFit, liveNamed, attributesAllowed, waitersQueued, queuesWait, queuesOrdered, queuedAtZero, binariesOwned, othersUnowned, readyAtRest, freeSlotsClear, agrees}
-use Rattle.rules.specs.Semaphore.{waitOf, ahead, placeOf, takeStep, giveStep, flushStep}
+use Rattle.rules.specs.Semaphore.{waitOf, ahead, placeOf, takeStep, giveStep, passStep, flushStep}
 use Rattle.rules.specs.Calls.{wakeAll, startRefusal, started, start, firstFree, createRefusal, newSemaphore, create, firstNamed, ident, deleteRefusal, delete, obtainRefusal, obtain, releaseRefusal, release, flushRefusal, flush, ticked, stillWaiting, tickedSlot, tick, perform, step}
 use Rattle.line.specs.Line.{fields, allDigits, spelled, isNumber, areNumbers, numbers, same, requestOf, lineOf}
 use Rattle.line.specs.Print.{digitsBefore, decimal, answerLine}
@@ -65,5 +65,5 @@ output =
     ∷ []
 
 P1-P11-as-text : session input ≡ output
-unfolding choose all next mostUrgent occurs sizesFit numbersFit answersFit liveNamed attributesAllowed waitersQueued queuesWait queuesOrdered queuedAtZero binariesOwned othersUnowned readyAtRest freeSlotsClear agrees waitOf ahead placeOf takeStep giveStep flushStep wakeAll startRefusal started start firstFree createRefusal newSemaphore create firstNamed ident deleteRefusal delete obtainRefusal obtain releaseRefusal release flushRefusal flush ticked stillWaiting tickedSlot tick perform step fields allDigits spelled isNumber areNumbers numbers same requestOf lineOf digitsBefore decimal answerLine lines answerTo outputs session
+unfolding choose all next mostUrgent occurs sizesFit numbersFit answersFit liveNamed attributesAllowed waitersQueued queuesWait queuesOrdered queuedAtZero binariesOwned othersUnowned readyAtRest freeSlotsClear agrees waitOf ahead placeOf takeStep giveStep passStep flushStep wakeAll startRefusal started start firstFree createRefusal newSemaphore create firstNamed ident deleteRefusal delete obtainRefusal obtain releaseRefusal release flushRefusal flush ticked stillWaiting tickedSlot tick perform step fields allDigits spelled isNumber areNumbers numbers same requestOf lineOf digitsBefore decimal answerLine lines answerTo outputs session
 P1-P11-as-text = refl

@@ -9,7 +9,7 @@ ghost use lib.ListN.{length, take, drop};
 ghost use Rattle.rules.specs.Machine.{Tables};
 ghost use Rattle.rules.specs.Agreement.{Agrees};
 ghost use Rattle.tables.specs.Layout.{laid};
-ghost use Rattle.manager.specs.Entry.{Replied, entry};
+ghost use Rattle.manager.specs.Entry.{Replied, replyTo};
 ghost use Rattle.session.specs.Session.{answerTo};
 ghost use Rattle.session.specs.Parts.{Middle};
 ghost use Rattle.session.specs.Kept.{Between, Begun, Said, Took, Moved, FedIs, Ended};
@@ -46,7 +46,7 @@ fn end_of(count: usize, n: usize) -> usize
 
 // A call with the priorities that stand behind the first of a line's numbers.
 fn call_with(m: &mut [u8], call: Call, numbers: &[u32; 128], count: usize) -> Answer
-    ensures { λ r. ⌜ Replied r (now (m .exit)) (entry (now (m .entry)) call (take count (drop 1 (now (numbers .entry))))) ⌝ }
+    ensures { λ r. ⌜ Replied r (now (m .exit)) (replyTo (now (m .entry)) call (take count (drop 1 (now (numbers .entry))))) ⌝ }
 {
     let all: &[u32] = numbers;
     let end = end_of(count, 128);

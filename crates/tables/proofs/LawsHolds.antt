@@ -6,7 +6,7 @@ use native.Mathlib.Omega.{arith}
 use native.Mathlib.Decide.{decLt}
 use lib.ListN.{length, getD, set, length-set, List·getD-eq-default}
 use Rattle.laws.specs.Rows.{fit}
-use Rattle.laws.specs.FitLaws.{length-fit, getD-fit, getD-set-keeps}
+use Rattle.laws.proofs.Fit.{length-fit, getD-fit, getD-set-keeps}
 use Rattle.words.proofs.Laws.{Bytes, Words, words-below, bytes-below}
 use Rattle.rules.specs.declared.Task.{Task}
 use Rattle.rules.specs.Machine.{Slot, Tables, noTask, freeSlot}

@@ -6,8 +6,8 @@ use native.Mathlib.Omega.{arith}
 use lib.ListN.{length, getD, set, length-append, length-map, List·getD-append}
 use lib.Seq.{sets, getD-append-add}
 use Rattle.laws.specs.Rows.{rows}
-use Rattle.laws.specs.FitLaws.{length-fit, fit-none, getD-same, sets-cons, sets-left, sets-right, map-set, getD-map}
-use Rattle.laws.specs.RowLaws.{AllWide, wide-map, length-rows, getD-rows, sets-rows}
+use Rattle.laws.proofs.Fit.{length-fit, fit-none, getD-same, sets-cons, sets-left, sets-right, map-set, getD-map}
+use Rattle.laws.proofs.Rows.{AllWide, wide-map, length-rows, getD-rows, sets-rows}
 use Rattle.rules.specs.declared.Task.{Task}
 use Rattle.rules.specs.Machine.{Slot, noTask, freeSlot}
 use Rattle.tables.specs.Layout.{taskPlace, slotPlace, taskRow, slotRow}

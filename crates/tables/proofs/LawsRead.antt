@@ -6,7 +6,7 @@ use native.Mathlib.Omega.{arith}
 use native.Mathlib.Decide.{decLt}
 use lib.ListN.{length, getD, List·getD-eq-default}
 use Rattle.laws.specs.Rows.{fit, tabulate}
-use Rattle.laws.specs.FitLaws.{length-fit, getD-fit, fit-tabulate, take-fit, tabulate-same, tabulate-getD}
+use Rattle.laws.proofs.Fit.{length-fit, getD-fit, fit-tabulate, take-fit, tabulate-same, tabulate-getD}
 use Rattle.words.specs.Words.{wordAt}
 use Rattle.words.proofs.Laws.{length-bytesOf, wordAt-bytesOf}
 use Rattle.rules.specs.declared.Task.{Task}

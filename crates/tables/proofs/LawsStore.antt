@@ -6,8 +6,8 @@ use native.Mathlib.Omega.{arith}
 use lib.ListN.{length, getD, set, take, replicate, length-set, length-replicate, replicate-append-replicate}
 use lib.Seq.{sets, length-take-le, take-length}
 use Rattle.laws.specs.Rows.{fit, rows}
-use Rattle.laws.specs.FitLaws.{length-fit, fit-none, fit-all, set-fit, fit-replicate, set-fit-next, map-replicate}
-use Rattle.laws.specs.RowLaws.{rows-replicate}
+use Rattle.laws.proofs.Fit.{length-fit, fit-none, fit-all, set-fit, fit-replicate, set-fit-next, map-replicate}
+use Rattle.laws.proofs.Rows.{rows-replicate}
 use Rattle.words.specs.Words.{bytesOf}
 use Rattle.words.proofs.Laws.{sets-bytesOf, bytesOf-zeros}
 use Rattle.rules.specs.declared.Task.{Task}

@@ -8,11 +8,13 @@ use native.Mathlib.Omega.{arith}
 use native.Mathlib.Decide.{decLt}
 use lib.ListN.{length, getD, take, length-take, List·getD-eq-default}
 use borrow.Author.Tests.{eq-eqb, eqb-true, le-leb, leb-true}
-use Rattle.laws.specs.Choose.{_and_, and-both, both-and}
-use Rattle.laws.specs.All.{all, all-at, all-of}
+use Rattle.laws.specs.Choose.{_and_}
+use Rattle.laws.proofs.Choose.{and-both, both-and}
+use Rattle.laws.specs.All.{all}
+use Rattle.laws.proofs.All.{all-at, all-of}
 use Rattle.laws.specs.Rows.{fit, tabulate, rows}
-use Rattle.laws.specs.FitLaws.{length-tabulate, getD-tabulate, getD-tabulate-else, tabulate-same, tabulate-add, fit-tabulate, fit-take, map-tabulate}
-use Rattle.laws.specs.RowLaws.{rows-tabulate}
+use Rattle.laws.proofs.Fit.{length-tabulate, getD-tabulate, getD-tabulate-else, tabulate-same, tabulate-add, fit-tabulate, fit-take, map-tabulate}
+use Rattle.laws.proofs.Rows.{rows-tabulate}
 use Rattle.words.specs.Words.{bytesOf, wordAt, blank}
 use Rattle.words.proofs.Laws.{Bytes, bytes-words, wordAt-below, blank-at, blank-of}
 use Rattle.rules.specs.declared.Task.{Task}

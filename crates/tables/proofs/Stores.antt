@@ -10,10 +10,11 @@ use lib.Dec.{leb}
 use lib.ListN.{length, getD, set}
 use lib.Seq.{sets, ext-getD, getD-set-same, getD-set-other}
 use borrow.Author.Tests.{le-leb, lt-leb, eq-eqb, ne-eqb}
-use Rattle.laws.specs.Choose.{_and_, if-yes, if-no}
+use Rattle.laws.specs.Choose.{_and_}
+use Rattle.laws.proofs.Choose.{if-yes, if-no}
 use Rattle.laws.specs.All.{all}
 use Rattle.laws.specs.Rows.{tabulate}
-use Rattle.laws.specs.FitLaws.{length-tabulate, getD-tabulate, sets-join}
+use Rattle.laws.proofs.Fit.{length-tabulate, getD-tabulate, sets-join}
 use Rattle.words.specs.Words.{bytesOf, wordAt, blank}
 use Rattle.rules.specs.declared.Task.{Task}
 use Rattle.semaphore.specs.declared.Semaphore.{Semaphore}

@@ -4,7 +4,7 @@ use semaphore::Semaphore;
 ghost use mathlib.Core.Path.{_≡_};
 ghost use Prim.Native.Nat.{_+_, _*_, _≤_, _<_};
 ghost use mathlib.Core.List.{[], _∷_};
-ghost use lib.ListN.{length};
+ghost use lib.ListN.{length, getD};
 ghost use lib.Seq.{sets};
 ghost use Rattle.words.specs.Words.{bytesOf, wordAt};
 ghost use Rattle.laws.specs.Rows.{tabulate};
@@ -12,6 +12,38 @@ ghost use Rattle.tables.specs.Layout.{tablesLength, taskPlace, slotPlace
 ghost use Rattle.laws.specs.All.{all};
 
 pub const TABLES_LENGTH: usize = 10760;
+
+// Words: N, S, then the places of tasks, then those of slots.
+pub const TASK_PLACES: usize = 32;
+
+pub const SLOT_PLACES: usize = 64;
+
+const TASKS_AT: usize = 2;
+
+const TASK_WORDS: usize = 4;
+
+const SLOTS_AT: usize = 130;
+
+const SLOT_WORDS: usize = 40;
+
+const TABLES_WORDS: usize = 2690;
+
+// Words of a slot behind its generation: its numbers, the count of its waiters, and 32 places of its queue.
+const LIVE: usize = 1;
+
+const NAME: usize = 2;
+
+const ATTRIBUTES: usize = 3;
+
+const COUNT: usize = 4;
+
+const OWNER: usize = 5;
+
+const NEST: usize = 6;
+
+const WAITERS: usize = 7;
+
+const QUEUE: usize = 8;
 
 // N, the number of tasks.
 pub fn task_count(m: &[u8]) -> u32
@@ -41,7 +73,7 @@ pub fn load_task(m: &[u8], i: usize) -> Task
     requires { ⌜ (length (now m) ≡ tablesLength) × (i < 32) ⌝ }
     ensures { λ r. ⌜ r ≡ taskAt (now (m .entry)) i ⌝ }
 {
-    let at = 2 + 4 * i;
+    let at = TASKS_AT + TASK_WORDS * i;
     Task {
         priority: words::word(m, at),
         answer: words::word(m, at + 1),
@@ -55,7 +87,44 @@ pub fn store_task(m: &mut [u8], i: usize, v: Task)
     ensures { λ _. ⌜ now (m .exit) ≡ sets (now (m .entry)) (4 * taskPlace i) (bytesOf (taskRow v)) ⌝ }
 {
     let row = [v.priority, v.answer, v.awaited, v.ticks];
-    words::set_words(m, 2 + 4 * i, &row);
+    words::set_words(m, TASKS_AT + TASK_WORDS * i, &row);
+}
+
+// One word of a slot, for those who need no more of it.
+pub fn slot_generation(m: &[u8], i: usize) -> u32
+    requires { ⌜ (length (now m) ≡ tablesLength) × (i < 64) ⌝ }
+    ensures { λ r. ⌜ r ≡ recordAt (now (m .entry)) i .generation ⌝ }
+{
+    words::word(m, SLOTS_AT + SLOT_WORDS * i)
+}
+
+pub fn slot_live(m: &[u8], i: usize) -> u32
+    requires { ⌜ (length (now m) ≡ tablesLength) × (i < 64) ⌝ }
+    ensures { λ r. ⌜ r ≡ recordAt (now (m .entry)) i .live ⌝ }
+{
+    words::word(m, SLOTS_AT + SLOT_WORDS * i + LIVE)
+}
+
+pub fn slot_name(m: &[u8], i: usize) -> u32
+    requires { ⌜ (length (now m) ≡ tablesLength) × (i < 64) ⌝ }
+    ensures { λ r. ⌜ r ≡ recordAt (now (m .entry)) i .name ⌝ }
+{
+    words::word(m, SLOTS_AT + SLOT_WORDS * i + NAME)
+}
+
+pub fn slot_waiters(m: &[u8], i: usize) -> u32
+    requires { ⌜ (length (now m) ≡ tablesLength) × (i < 64) ⌝ }
+    ensures { λ r. ⌜ r ≡ recordAt (now (m .entry)) i .waiters ⌝ }
+{
+    words::word(m, SLOTS_AT + SLOT_WORDS * i + WAITERS)
+}
+
+// The task at place k of a slot's queue.
+pub fn queue_entry(m: &[u8], i: usize, k: usize) -> u32
+    requires { ⌜ (length (now m) ≡ tablesLength) × (i < 64) × (k < 32) ⌝ }
+    ensures { λ r. ⌜ r ≡ getD (recordAt (now (m .entry)) i .queue) k 0 ⌝ }
+{
+    words::word(m, SLOTS_AT + SLOT_WORDS * i + QUEUE + k)
 }
 
 fn load_queue(m: &[u8], at: usize) -> [u32; 32]
@@ -75,17 +144,17 @@ pub fn load_slot(m: &[u8], i: usize) -> Semaphore
     requires { ⌜ (length (now m) ≡ tablesLength) × (i < 64) ⌝ }
     ensures { λ r. ⌜ r ≡ recordAt (now (m .entry)) i ⌝ }
 {
-    let at = 130 + 40 * i;
-    let queue = load_queue(m, at + 8);
+    let at = SLOTS_AT + SLOT_WORDS * i;
+    let queue = load_queue(m, at + QUEUE);
     Semaphore {
         generation: words::word(m, at),
-        live: words::word(m, at + 1),
-        name: words::word(m, at + 2),
-        attributes: words::word(m, at + 3),
-        count: words::word(m, at + 4),
-        owner: words::word(m, at + 5),
-        nest: words::word(m, at + 6),
-        waiters: words::word(m, at + 7),
+        live: words::word(m, at + LIVE),
+        name: words::word(m, at + NAME),
+        attributes: words::word(m, at + ATTRIBUTES),
+        count: words::word(m, at + COUNT),
+        owner: words::word(m, at + OWNER),
+        nest: words::word(m, at + NEST),
+        waiters: words::word(m, at + WAITERS),
         queue: queue,
     }
 }
@@ -94,7 +163,7 @@ pub fn store_slot(m: &mut [u8], i: usize, s: Semaphore)
     requires { ⌜ (length (now m) ≡ tablesLength) × (i < 64) ⌝ }
     ensures { λ _. ⌜ now (m .exit) ≡ sets (now (m .entry)) (4 * slotPlace i) (bytesOf (recordRow s)) ⌝ }
 {
-    let at = 130 + 40 * i;
+    let at = SLOTS_AT + SLOT_WORDS * i;
     let row = [
         s.generation,
         s.live,
@@ -107,7 +176,7 @@ pub fn store_slot(m: &mut [u8], i: usize, s: Semaphore)
     ];
     words::set_words(m, at, &row);
     let queue = s.queue;
-    words::set_words(m, at + 8, &queue);
+    words::set_words(m, at + QUEUE, &queue);
 }
 
 // Whether a slot's queue is within its 32 places, and 0 behind its waiters.
@@ -115,12 +184,12 @@ fn is_queue_laid(m: &[u8], i: usize) -> bool
     requires { ⌜ (length (now m) ≡ tablesLength) × (i < 64) ⌝ }
     ensures { λ r. ⌜ r ≡ isQueueLaid (now (m .entry)) i ⌝ }
 {
-    let at = 130 + 40 * i;
-    let waiters = words::word(m, at + 7) as usize;
+    let at = SLOTS_AT + SLOT_WORDS * i;
+    let waiters = words::word(m, at + WAITERS) as usize;
     if 32 < waiters {
         return false;
     }
-    words::is_blank(m, at + 8 + waiters, at + 40)
+    words::is_blank(m, at + QUEUE + waiters, at + SLOT_WORDS)
 }
 
 fn are_queues_laid(m: &[u8], slots: usize) -> bool
@@ -141,7 +210,7 @@ fn are_queues_laid(m: &[u8], slots: usize) -> bool
 pub fn is_layout(m: &[u8]) -> bool
     ensures { λ r. ⌜ r ≡ isLaid (now (m .entry)) ⌝ }
 {
-    if m.len() != 10760 {
+    if m.len() != TABLES_LENGTH {
         return false;
     }
     let tasks = words::word(m, 0) as usize;
@@ -152,11 +221,11 @@ pub fn is_layout(m: &[u8]) -> bool
     if 64 < slots {
         return false;
     }
-    if !words::is_blank(m, 2 + 4 * tasks, 130) {
+    if !words::is_blank(m, TASKS_AT + TASK_WORDS * tasks, SLOTS_AT) {
         return false;
     }
     if !are_queues_laid(m, slots) {
         return false;
     }
-    words::is_blank(m, 130 + 40 * slots, 2690)
+    words::is_blank(m, SLOTS_AT + SLOT_WORDS * slots, TABLES_WORDS)
 }

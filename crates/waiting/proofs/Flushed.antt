@@ -5,13 +5,14 @@ use mathlib.Core.List.{List}
 use Prim.Native.Nat.{ℕ, _≤_, _<_}
 use native.Mathlib.Omega.{arith}
 use lib.ListN.{length, getD, take}
-use Rattle.laws.specs.Choose.{choose, if-yes, if-no}
+use Rattle.laws.specs.Choose.{choose}
+use Rattle.laws.proofs.Choose.{if-yes, if-no}
 use Rattle.words.proofs.Laws.{Bytes}
 use Rattle.rules.specs.declared.Call.the-variants.{Flush}
 use Rattle.rules.specs.Machine.{Slot, Tables, slotOf, putSlot, names, slotNamed}
 use Rattle.rules.specs.Semaphore.{flushStep}
 use Rattle.rules.specs.Calls.{Outcome, answered, refused, anyCaller, wakeAll, flushRefusal, flush, perform}
-use Rattle.invariants.specs.Fits.{callFits}
+use Rattle.rules.specs.Fits.{callFits}
 use Rattle.semaphore.specs.declared.Semaphore.{Semaphore}
 use Rattle.semaphore.specs.Record.{slotFrom, Stands}
 use Rattle.tables.specs.Layout.{laid, modelOf}

@@ -8,18 +8,19 @@ use native.Mathlib.Omega.{arith}
 use lib.Dec.{leb, eqb}
 use lib.ListN.{length, getD}
 use borrow.Author.Tests.{eq-eqb, ne-eqb}
-use Rattle.laws.specs.Choose.{choose, _or_, never, tested, if-yes, if-no, or-either, choose-cases}
+use Rattle.laws.specs.Choose.{choose, _or_}
+use Rattle.laws.proofs.Choose.{never, tested, if-yes, if-no, or-either, choose-cases}
 use Rattle.words.proofs.Laws.{Bytes}
 use Rattle.rules.specs.declared.Call.{Call}
 use Rattle.rules.specs.Numbers.{maxNumber, isBinary, isSimple, maximum, byPriority}
 use Rattle.rules.specs.Machine.{Slot, Tables, slotOf, isLive, names, slotNamed}
 use Rattle.rules.specs.Semaphore.{ahead, placeOf}
 use Rattle.rules.specs.Calls.{answered, taskOnly, anyCaller, perform}
-use Rattle.invariants.specs.Fits.{callFits}
-use Rattle.invariants.specs.Facts.{Facts, SlotFits, Unheld, Held}
-use Rattle.invariants.specs.FromTests.{agrees-facts}
-use Rattle.invariants.specs.Room.{entry-within, queue-room}
-use Rattle.invariants.specs.Refusals.{Caller, task-only}
+use Rattle.rules.specs.Fits.{callFits}
+use Rattle.rules.proofs.Invariants.Facts.{Facts, SlotFits, Unheld, Held}
+use Rattle.rules.proofs.Invariants.FromTests.{agrees-facts}
+use Rattle.rules.proofs.Invariants.Room.{entry-within, queue-room}
+use Rattle.rules.proofs.Invariants.Refusals.{Caller, task-only}
 use Rattle.semaphore.specs.declared.Semaphore.{Semaphore}
 use Rattle.semaphore.specs.Record.{Stands}
 use Rattle.tables.specs.Layout.{laid, modelOf, recordAt}

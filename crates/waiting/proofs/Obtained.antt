@@ -7,7 +7,8 @@ use native.Mathlib.Omega.{arith}
 use lib.Dec.{eqb}
 use lib.ListN.{length}
 use borrow.Author.Tests.{le-leb}
-use Rattle.laws.specs.Choose.{choose, if-yes, if-no, if-eq, if-ne}
+use Rattle.laws.specs.Choose.{choose}
+use Rattle.laws.proofs.Choose.{if-yes, if-no, if-eq, if-ne}
 use Rattle.words.proofs.Laws.{Bytes}
 use Rattle.rules.specs.declared.Task.{Task}
 use Rattle.rules.specs.declared.Wait.{Wait}
@@ -16,7 +17,7 @@ use Rattle.rules.specs.declared.Call.the-variants.{Obtain}
 use Rattle.rules.specs.Machine.{Slot, Tables, taskOf, slotOf, putTask, putSlot, urgency, names, slotNamed}
 use Rattle.rules.specs.Semaphore.{ticksOf, placeOf, Taken, takeStep}
 use Rattle.rules.specs.Calls.{Outcome, answered, refused, taskOnly, blocked, obtainRefusal, obtain, perform}
-use Rattle.invariants.specs.Fits.{waitFits, callFits}
+use Rattle.rules.specs.Fits.{waitFits, callFits}
 use Rattle.semaphore.specs.declared.Semaphore.{Semaphore}
 use Rattle.semaphore.specs.declared.Taken.{Taken as TakenRecord}
 use Rattle.semaphore.specs.Record.{slotFrom, Stands, TakenIs}

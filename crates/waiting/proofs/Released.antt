@@ -7,14 +7,15 @@ use native.Mathlib.Omega.{arith}
 use lib.Dec.{leb, eqb}
 use lib.ListN.{length, getD}
 use borrow.Author.Tests.{leb-true}
-use Rattle.laws.specs.Choose.{choose, _and_, isnt, if-yes, if-no, if-eq, if-ne, choose-cases}
+use Rattle.laws.specs.Choose.{choose, _and_, isnt}
+use Rattle.laws.proofs.Choose.{if-yes, if-no, if-eq, if-ne, choose-cases}
 use Rattle.words.proofs.Laws.{Bytes}
 use Rattle.rules.specs.declared.Call.the-variants.{Release}
 use Rattle.rules.specs.Numbers.{isBinary, maximum}
 use Rattle.rules.specs.Machine.{Slot, Tables, slotOf, putSlot, names, slotNamed}
-use Rattle.rules.specs.Semaphore.{ownedBy, Given, giveStep}
+use Rattle.rules.specs.Semaphore.{ownedBy, Given, giveStep, passStep}
 use Rattle.rules.specs.Calls.{Outcome, answered, refused, anyCaller, wake, releaseRefusal, release, perform}
-use Rattle.invariants.specs.Fits.{callFits}
+use Rattle.rules.specs.Fits.{callFits}
 use Rattle.semaphore.specs.declared.Semaphore.{Semaphore}
 use Rattle.semaphore.specs.declared.Given.{Given as GivenRecord}
 use Rattle.semaphore.specs.Record.{slotFrom, Stands, GivenIs}
@@ -25,7 +26,7 @@ use Rattle.waiting.proofs.Laws.{Reads, Located, unless-is, any-refused,
 
 -- a release wakes nobody, or the first of the queue
 woken-within : (s : Slot) (caller N : ℕ) → ((k : ℕ) → k < length (s .queue) → getD (s .queue) k 0 ≤ N) → giveStep s caller .woken ≤ N
-unfolding giveStep
+unfolding giveStep passStep
 woken-within s caller N h =
     choose-cases P (isBinary (s .attributes) and isnt (ownedBy s caller)) _ _ (λ e. omega arith)
     (λ e. choose-cases P (isBinary (s .attributes) and leb 2 (s .nest)) _ _ (λ e. omega arith)

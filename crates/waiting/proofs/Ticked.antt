@@ -6,14 +6,14 @@ use mathlib.Core.Logic.{⊎-elim}
 use Prim.Native.Nat.{ℕ, _≤_, _<_}
 use native.Mathlib.Omega.{arith}
 use lib.ListN.{length, getD}
-use Rattle.laws.specs.Choose.{tested}
+use Rattle.laws.proofs.Choose.{tested}
 use Rattle.words.proofs.Laws.{Bytes}
 use Rattle.rules.specs.declared.Call.the-variants.{Tick}
 use Rattle.rules.specs.Machine.{Tables, isLive}
 use Rattle.rules.specs.Calls.{answered, ticked, tickedSlot, tick, perform}
-use Rattle.invariants.specs.Facts.{Facts, slotAt}
-use Rattle.invariants.specs.FromTests.{agrees-facts}
-use Rattle.invariants.specs.Room.{entry-within}
+use Rattle.rules.proofs.Invariants.Facts.{Facts, nthSlot}
+use Rattle.rules.proofs.Invariants.FromTests.{agrees-facts}
+use Rattle.rules.proofs.Invariants.Room.{entry-within}
 use Rattle.tables.specs.Layout.{laid}
 use Rattle.changes.specs.Limits.{Limited, TaskQueues, queueAt}
 use Rattle.answers.proofs.Laws.{tasks-few, slots-few, queue-few}
@@ -37,9 +37,9 @@ module _ {bs : List ℕ} {t : Tables} (m : Reads bs t) where
   -- a queue's entries are tasks, and a free slot's queue has none
   entry : (i k : ℕ) → k < length (queueAt t i) → (1 ≤ getD (queueAt t i) k 0) × (getD (queueAt t i) k 0 ≤ length (t .tasks))
   entry i k h =
-      ⊎-elim (λ (l : isLive (slotAt t i) ≡ true). entry-within t facts i l k h)
-      (λ (n : isLive (slotAt t i) ≡ false). absurd (omega (arith, facts .slots i .whenFree n .queue)))
-      (tested (isLive (slotAt t i)))
+      ⊎-elim (λ (l : isLive (nthSlot t i) ≡ true). entry-within t facts i l k h)
+      (λ (n : isLive (nthSlot t i) ≡ false). absurd (omega (arith, facts .slots i .whenFree n .queue)))
+      (tested (isLive (nthSlot t i)))
 
   pub task-queues : TaskQueues bs
   task-queues =

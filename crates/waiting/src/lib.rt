@@ -30,7 +30,7 @@ fn blocked(v: Task, id: u32, ticks: u32) -> Task
 {
     Task {
         priority: v.priority,
-        answer: 100,
+        answer: rules::WAITING,
         awaited: id,
         ticks: ticks,
     }
@@ -46,25 +46,25 @@ pub fn obtain(m: &mut [u8], caller: u32, id: u32, wait: Wait) -> Answer
     }
     let n = lookup::slot_named(m, id);
     if n == 0 {
-        return answers::answer(m, 4, 0);
+        return answers::answer(m, rules::INVALID_ID, 0);
     }
     let s = tables::load_slot(m, n as usize - 1);
     let place = lookup::place_of(m, s, caller);
     let taken = s.take(caller, place, wait);
     let status = taken.status;
-    if status == 13 {
-        return answers::answer(m, 13, 0);
+    if status == rules::UNSATISFIED {
+        return answers::answer(m, rules::UNSATISFIED, 0);
     }
     let ticks = ticks_of(wait);
     let held = taken.semaphore;
     changes::put_slot(m, n, held);
-    if status != 100 {
+    if status != rules::WAITING {
         return answers::answer(m, 0, 0);
     }
     let v = tables::load_task(m, caller as usize - 1);
     let waiter = blocked(v, id, ticks);
     changes::put_task(m, caller, waiter);
-    answers::answer(m, 100, 0)
+    answers::answer(m, rules::WAITING, 0)
 }
 
 // ---- release
@@ -79,7 +79,7 @@ pub fn release(m: &mut [u8], caller: u32, id: u32) -> Answer
     }
     let n = lookup::slot_named(m, id);
     if n == 0 {
-        return answers::answer(m, 4, 0);
+        return answers::answer(m, rules::INVALID_ID, 0);
     }
     let s = tables::load_slot(m, n as usize - 1);
     let given = s.give(caller);
@@ -109,7 +109,7 @@ pub fn flush(m: &mut [u8], caller: u32, id: u32) -> Answer
     }
     let n = lookup::slot_named(m, id);
     if n == 0 {
-        return answers::answer(m, 4, 0);
+        return answers::answer(m, rules::INVALID_ID, 0);
     }
     let s = tables::load_slot(m, n as usize - 1);
     let flushed = s.flush();
@@ -117,7 +117,7 @@ pub fn flush(m: &mut [u8], caller: u32, id: u32) -> Answer
     changes::put_slot(m, n, emptied);
     let queue = s.queue;
     let waiters = s.waiters as usize;
-    changes::wake_all(m, queue, waiters, 13);
+    changes::wake_all(m, queue, waiters, rules::UNSATISFIED);
     answers::answer(m, 0, 0)
 }
 

@@ -9,9 +9,9 @@ use lib.Dec.{eqb}
 use lib.ListN.{length, getD, set, length-set, replicate, replicate-append-replicate}
 use lib.Seq.{sets}
 use borrow.Author.Tests.{eq-eqb, eqb-true}
-use Rattle.laws.specs.All.{all-at, all-of}
+use Rattle.laws.proofs.All.{all-at, all-of}
 use Rattle.laws.specs.Rows.{tabulate}
-use Rattle.laws.specs.FitLaws.{sets-right, sets-join, tabulate-same}
+use Rattle.laws.proofs.Fit.{sets-right, sets-join, tabulate-same}
 use Rattle.words.specs.Words.{bytesOfWord, bytesOf, wordAt, blank}
 
 -- every number of the list is below the bound, as 0 past the end is

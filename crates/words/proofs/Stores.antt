@@ -11,7 +11,7 @@ use lib.Dec.{eqb}
 use lib.ListN.{length, getD, take, drop, length-drop}
 use lib.Seq.{sets, drop-cons, drop-length, length-take-le, getD-take, getD-drop}
 use borrow.Author.Tests.{eq-eqb, eqb-true}
-use Rattle.laws.specs.Choose.{tested, never}
+use Rattle.laws.proofs.Choose.{tested, never}
 use Rattle.words.specs.Words.{bytesOfWord, bytesOf, wordAt, blank, Greatest}
 use Rattle.words.proofs.Laws.{blank-at, blank-of}
 

@@ -5,7 +5,8 @@ use mathlib.Core.Bool.{true}
 use Prim.Native.Nat.{suc, _≤_, _-_}
 use native.Mathlib.Omega.{arith}
 use borrow.Author.Tests.{not-true, not-false}
-use Rattle.laws.specs.All.{all, all-none, all-more, all-not}
+use Rattle.laws.specs.All.{all}
+use Rattle.laws.proofs.All.{all-none, all-more, all-not}
 use Rattle.words.specs.Words.{wordAt}
 use Rattle.tables.specs.Layout.{modelOf}
 use Rattle.agreement.specs.Tests.{slotFine}

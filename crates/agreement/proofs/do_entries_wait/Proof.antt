@@ -6,7 +6,8 @@ use Prim.Native.Nat.{ℕ, _+_, _≤_, _-_}
 use native.Mathlib.Omega.{arith}
 use lib.ListN.{getD}
 use borrow.Author.Tests.{not-true, not-false}
-use Rattle.laws.specs.All.{all, all-none, all-more, all-not}
+use Rattle.laws.specs.All.{all}
+use Rattle.laws.proofs.All.{all-none, all-more, all-not}
 use Rattle.words.specs.Words.{wordAt}
 use Rattle.rules.specs.Agreement.{isWaiter}
 use Rattle.tables.specs.Layout.{slotPlace, modelOf}

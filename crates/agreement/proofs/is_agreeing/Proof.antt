@@ -3,7 +3,7 @@ use borrow.Author.Needs.{needs}
 use mathlib.Core.Path.{_≡_, ap₂, sym, _∙_}
 use mathlib.Core.Bool.{true, false}
 use borrow.Author.Tests.{not-true, not-false}
-use Rattle.laws.specs.Choose.{cases}
+use Rattle.laws.proofs.Choose.{cases}
 use Rattle.words.specs.Words.{wordAt}
 use Rattle.tables.specs.Layout.{isLaid}
 use Rattle.agreement.specs.Bytes.{countsFit, agreesBytes}

@@ -3,7 +3,7 @@ use borrow.Author.Needs.{needs}
 use mathlib.Core.Path.{_≡_, sym, _∙_}
 use Prim.Native.Nat.{_≤_, _<_}
 use native.Mathlib.Omega.{arith}
-use Rattle.laws.specs.Choose.{cases}
+use Rattle.laws.proofs.Choose.{cases}
 use Rattle.rules.specs.Agreement.{occurs}
 use Rattle.agreement.specs.Bytes.{queueAt, slotWith}
 use Rattle.agreement.proofs.Cases.{binary-one, binary-owned}

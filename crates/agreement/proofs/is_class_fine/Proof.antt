@@ -2,7 +2,7 @@
 use borrow.Author.Needs.{needs}
 use mathlib.Core.Path.{_≡_, sym, _∙_}
 use mathlib.Core.Bool.{true, false}
-use Rattle.laws.specs.Choose.{if-yes, if-no}
+use Rattle.laws.proofs.Choose.{if-yes, if-no}
 use Rattle.rules.specs.Numbers.{isBinary}
 use Rattle.agreement.specs.Tests.{classFine}
 use Rattle.agreement.proofs.is_class_fine.Statement.{statement}

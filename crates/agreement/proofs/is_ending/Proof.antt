@@ -1,5 +1,5 @@
 -- `agreement::is_ending` meets its contract: each return is a case of the definition.
-use Rattle.laws.specs.Choose.{cases}
+use Rattle.laws.proofs.Choose.{cases}
 use Rattle.agreement.specs.Tests.{isEnding}
 use Rattle.agreement.proofs.is_ending.Statement.{statement}
 use Rattle.agreement.proofs.is_ending.Tie as tie

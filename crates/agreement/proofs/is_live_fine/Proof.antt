@@ -6,7 +6,7 @@ use Prim.Native.Nat.{ℕ, _≤_, _<_}
 use native.Mathlib.Omega.{arith}
 use lib.ListN.{length}
 use borrow.Author.Tests.{not-true, not-false}
-use Rattle.laws.specs.Choose.{cases}
+use Rattle.laws.proofs.Choose.{cases}
 use Rattle.rules.specs.Numbers.{allowed}
 use Rattle.tables.specs.Layout.{modelOf}
 use Rattle.lookup.proofs.Model.{length-tasks}

@@ -6,7 +6,8 @@ use Prim.Native.Nat.{ℕ, pred, _+_, _≤_, _-_}
 use native.Mathlib.Omega.{arith}
 use lib.Dec.{leb}
 use borrow.Author.Tests.{le-leb, lt-leb}
-use Rattle.laws.specs.All.{all, all-none, all-more, all-not}
+use Rattle.laws.specs.All.{all}
+use Rattle.laws.proofs.All.{all-none, all-more, all-not}
 use Rattle.words.specs.Words.{wordAt}
 use Rattle.rules.specs.Machine.{urgency}
 use Rattle.tables.specs.Layout.{slotPlace, modelOf}

@@ -3,7 +3,7 @@ use borrow.Author.Needs.{needs}
 use mathlib.Core.Path.{_≡_, sym, _∙_}
 use mathlib.Core.Bool.{true, false}
 use Rattle.rules.specs.Numbers.{isSimple}
-use Rattle.laws.specs.Choose.{cases}
+use Rattle.laws.proofs.Choose.{cases}
 use Rattle.agreement.specs.Tests.{otherFine}
 use Rattle.agreement.proofs.is_other_fine.Statement.{statement}
 use Rattle.agreement.proofs.is_other_fine.Tie as tie

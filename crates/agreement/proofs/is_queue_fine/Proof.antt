@@ -3,7 +3,7 @@ use borrow.Author.Needs.{needs}
 use mathlib.Core.Path.{_≡_, sym, _∙_}
 use mathlib.Core.Bool.{true, false}
 use borrow.Author.Tests.{not-true, not-false}
-use Rattle.laws.specs.Choose.{cases}
+use Rattle.laws.proofs.Choose.{cases}
 use lib.ListN.{length}
 use Rattle.tables.specs.Layout.{modelOf}
 use Rattle.agreement.specs.Tests.{countFine, entriesWait, queueFine}

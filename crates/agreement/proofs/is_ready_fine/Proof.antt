@@ -1,6 +1,6 @@
 -- `agreement::is_ready_fine` meets its contract: each return is a case of the definition.
 use borrow.Author.Needs.{needs}
-use Rattle.laws.specs.Choose.{cases}
+use Rattle.laws.proofs.Choose.{cases}
 use Rattle.agreement.specs.Tests.{readyFine}
 use mathlib.Core.Path.{_≡_, sym, _∙_}
 use mathlib.Core.Bool.{true}

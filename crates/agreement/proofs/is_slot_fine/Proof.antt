@@ -4,7 +4,7 @@ use mathlib.Core.Path.{_≡_, ap, ap₂, sym, _∙_}
 use Prim.Native.Nat.{ℕ, suc, _+_, _≤_, _<_}
 use native.Mathlib.Numerals.{add-one}
 use native.Mathlib.Omega.{arith}
-use Rattle.laws.specs.Choose.{cases}
+use Rattle.laws.proofs.Choose.{cases}
 use Rattle.words.specs.Words.{wordAt}
 use Rattle.tables.specs.Layout.{slotPlace, modelOf}
 use Rattle.agreement.specs.declared.Head.{Head}

@@ -4,7 +4,7 @@ use mathlib.Core.Path.{_≡_, ap, _∙_}
 use Prim.Native.Nat.{ℕ, suc, _≤_, _<_}
 use native.Mathlib.Numerals.{add-one}
 use native.Mathlib.Omega.{arith}
-use Rattle.laws.specs.Choose.{cases}
+use Rattle.laws.proofs.Choose.{cases}
 use Rattle.tables.specs.Layout.{modelOf}
 use Rattle.agreement.specs.Tests.{waitingFine, taskFine}
 use Rattle.agreement.proofs.Records.{taskTests, task-of, task-tested}

@@ -2,7 +2,7 @@
 use borrow.Author.Needs.{needs}
 use mathlib.Core.Path.{refl, _∙_}
 use native.Mathlib.Omega.{arith}
-use Rattle.laws.specs.Choose.{cases}
+use Rattle.laws.proofs.Choose.{cases}
 use Rattle.agreement.proofs.Records.{task-of, waiter-none, waiter-above, waiter-task}
 use Rattle.agreement.proofs.is_waiter.Statement.{statement}
 use Rattle.agreement.proofs.is_waiter.Tie as tie

@@ -1,5 +1,5 @@
 -- `agreement::same` meets its contract: each return is a case of the definition.
-use Rattle.laws.specs.Choose.{cases}
+use Rattle.laws.proofs.Choose.{cases}
 use Rattle.agreement.proofs.same.Statement.{statement}
 use Rattle.agreement.proofs.same.Tie as tie
 

@@ -4,7 +4,7 @@ use mathlib.Core.List.{[]}
 use denote.Ref.{now}
 use Rattle.rules.specs.declared.Wait.{Wait}
 use Rattle.rules.specs.declared.Call.the-variants.{Obtain}
-use Rattle.manager.specs.Entry.{Replied, entry}
+use Rattle.manager.specs.Entry.{Replied, replyTo}
 use borrow.Author.Needs.{needs}
 use Rattle.capi.proofs.mast_obtain.Statement.{statement}
 use Rattle.capi.proofs.mast_obtain.Tie as tie
@@ -22,7 +22,7 @@ returns : tie.Need-returns
 returns c =
     let called = c .before .before in
     let a = called .before .before .before .before .args in
-    subst (λ (w : Wait). Replied (called .obtain .result) (called .obtain .last .0) (entry (now (a .tables)) (Obtain (a .caller) (a .id) w) []))
+    subst (λ (w : Wait). Replied (called .obtain .result) (called .obtain .last .0) (replyTo (now (a .tables)) (Obtain (a .caller) (a .id) w) []))
     (called .before .wait-of .ensures) (called .obtain .ensures)
 
 pub mast-obtain-spec : {M : Type 1} → statement M

@@ -5,7 +5,8 @@ use mathlib.Core.Bool.{true}
 use Prim.Native.Nat.{_-_, _≤_}
 use native.Mathlib.Omega.{arith}
 use lib.ListN.{length, getD}
-use Rattle.laws.specs.All.{all, all-none, all-more, all-not}
+use Rattle.laws.specs.All.{all}
+use Rattle.laws.proofs.All.{all-none, all-more, all-not}
 use Rattle.rules.specs.Numbers.{maxPriority, within}
 use Rattle.lifecycle.proofs.Laws.{within-low, within-high, within-both, all-through}
 use Rattle.lifecycle.proofs.are_priorities.Statement.{statement}

@@ -4,7 +4,7 @@ use mathlib.Core.Path.{refl, sym, _∙_}
 use native.Mathlib.Omega.{arith}
 use borrow.Author.Tests.{not-true, not-false}
 use lib.ListN.{length}
-use Rattle.laws.specs.Choose.{both-and}
+use Rattle.laws.proofs.Choose.{both-and}
 use Rattle.lifecycle.proofs.Laws.{holding, failing, and-first, and-second, within-low, within-high, within-both, start-again, start-sizes, start-priorities}
 use Rattle.lifecycle.proofs.start_refusal.Statement.{statement}
 use Rattle.lifecycle.proofs.start_refusal.Tie as tie

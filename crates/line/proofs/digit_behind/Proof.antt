@@ -6,7 +6,8 @@ use Prim.Native.Nat.{ℕ, _+_, _-_, _*_, _≤_, _<_}
 use native.Mathlib.Omega.{arith}
 use lib.Dec.{leb, eqb}
 use borrow.Author.Needs.{needs}
-use Rattle.laws.specs.Choose.{_and_, isnt, cases}
+use Rattle.laws.specs.Choose.{_and_, isnt}
+use Rattle.laws.proofs.Choose.{cases}
 use Rattle.rules.specs.Numbers.{maxNumber}
 use Rattle.line.specs.Scan.{digitBehind}
 use Rattle.line.proofs.Reading.{first-digit, later-digit}

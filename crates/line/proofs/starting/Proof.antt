@@ -1,5 +1,5 @@
 -- `line::starting` meets its contract: each return is a case of the definition.
-use Rattle.laws.specs.Choose.{cases}
+use Rattle.laws.proofs.Choose.{cases}
 use Rattle.line.specs.Scan.{askedBy}
 use Rattle.line.proofs.starting.Statement.{statement}
 use Rattle.line.proofs.starting.Tie as tie

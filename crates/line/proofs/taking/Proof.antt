@@ -1,5 +1,5 @@
 -- `line::taking` meets its contract: each return is a case of the definition.
-use Rattle.laws.specs.Choose.{cases}
+use Rattle.laws.proofs.Choose.{cases}
 use Rattle.line.proofs.taking.Statement.{statement}
 use Rattle.line.proofs.taking.Tie as tie
 

@@ -3,7 +3,7 @@ use mathlib.Core.Bool.{false}
 use mathlib.Core.Path.{_≡_, sym, _∙_}
 use denote.Ref.{now}
 use borrow.Author.Needs.{needs}
-use Rattle.laws.specs.Choose.{if-yes, if-no}
+use Rattle.laws.proofs.Choose.{if-yes, if-no}
 use Rattle.line.specs.Line.{same, startWord, createWord, identWord, deleteWord, obtainWord, releaseWord, flushWord, tickWord}
 use Rattle.line.specs.Scan.{wordOf}
 use Rattle.line.proofs.word_of.Statement.{statement}

@@ -1,7 +1,7 @@
 -- `lookup::is_named` meets its contract.
 use mathlib.Core.Path.{sym}
 use borrow.Author.Tests.{eq-eqb, ne-eqb}
-use Rattle.laws.specs.Choose.{if-yes, if-no}
+use Rattle.laws.proofs.Choose.{if-yes, if-no}
 use Rattle.lookup.proofs.is_named.Statement.{statement}
 use Rattle.lookup.proofs.is_named.Tie as tie
 

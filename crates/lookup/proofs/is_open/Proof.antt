@@ -1,7 +1,7 @@
 -- `lookup::is_open` meets its contract.
 use mathlib.Core.Path.{sym}
 use borrow.Author.Tests.{eq-eqb, ne-eqb}
-use Rattle.laws.specs.Choose.{if-yes, if-no}
+use Rattle.laws.proofs.Choose.{if-yes, if-no}
 use Rattle.lookup.proofs.is_open.Statement.{statement}
 use Rattle.lookup.proofs.is_open.Tie as tie
 

@@ -7,10 +7,10 @@ use denote.Ref.{now}
 use borrow.Author.Needs.{needs}
 use borrow.Author.Tests.{not-true, not-false}
 use Rattle.words.proofs.Laws.{Bytes}
-use Rattle.laws.specs.Choose.{if-yes, if-no}
+use Rattle.laws.proofs.Choose.{if-yes, if-no}
 use Rattle.tables.specs.Layout.{modelOf}
 use Rattle.agreement.specs.Bytes.{agreesBytes}
-use Rattle.manager.specs.Entry.{taskEntry}
+use Rattle.manager.specs.Entry.{taskReply}
 use Rattle.manager.proofs.Laws.{model-agrees, model-laid, agreeing}
 use Rattle.manager.proofs.task.Statement.{statement}
 use Rattle.manager.proofs.task.Tie as tie
@@ -31,7 +31,7 @@ internal-error-requires : tie.Need-internal-error-requires
 internal-error-requires c κs = search needs
 
 returns : tie.Need-returns
-unfolding taskEntry
+unfolding taskReply
 returns c =
     let at-test = c .before .before in
     c .internal-error .ensures ∙ sym (if-no _ _ (sym (at-test .is-agreeing .ensures) ∙ not-true _ (c .before .if1 .taken)))
@@ -41,7 +41,7 @@ task-requires c κs =
     agreeing _ (bytes (c .before .before)) (passed (c .before) (not-false _ (c .if1 .left)))
 
 returns-2 : tie.Need-returns-2
-unfolding taskEntry
+unfolding taskReply
 returns-2 c =
     let at-test = c .before .before in
     let known = at-test .before in

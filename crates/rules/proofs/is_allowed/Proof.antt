@@ -1,5 +1,5 @@
 -- `rules::is_allowed` meets its contract: each return is a case of the definition.
-use Rattle.laws.specs.Choose.{cases}
+use Rattle.laws.proofs.Choose.{cases}
 use Rattle.rules.proofs.is_allowed.Statement.{statement}
 use Rattle.rules.proofs.is_allowed.Tie as tie
 

@@ -1,5 +1,5 @@
 -- `rules::wait_of` meets its contract: each return is a case of the definition.
-use Rattle.laws.specs.Choose.{cases}
+use Rattle.laws.proofs.Choose.{cases}
 use Rattle.rules.specs.Semaphore.{waitOf}
 use Rattle.rules.proofs.wait_of.Statement.{statement}
 use Rattle.rules.proofs.wait_of.Tie as tie

@@ -2,7 +2,7 @@
 use borrow.Author.Needs.{needs}
 use mathlib.Core.Path.{sym, _∙_}
 use borrow.Author.Tests.{eq-eqb, ne-eqb, not-true, not-false}
-use Rattle.laws.specs.Choose.{if-yes, if-no, both-and}
+use Rattle.laws.proofs.Choose.{if-yes, if-no, both-and}
 use Rattle.laws.specs.Rows.{fit}
 use Rattle.semaphore.proofs.Steps.{stands-as, new-unowned, new-owned}
 use Rattle.semaphore.proofs.created.Statement.{statement}

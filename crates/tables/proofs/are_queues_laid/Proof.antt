@@ -5,7 +5,8 @@ use mathlib.Core.Path.{_≡_, _∙_, sym}
 use mathlib.Core.Bool.{true}
 use Prim.Native.Nat.{_≤_, _-_}
 use native.Mathlib.Omega.{arith}
-use Rattle.laws.specs.All.{all, all-none, all-more, all-not}
+use Rattle.laws.specs.All.{all}
+use Rattle.laws.proofs.All.{all-none, all-more, all-not}
 use Rattle.tables.specs.Layout.{isQueueLaid}
 use Rattle.tables.proofs.are_queues_laid.Statement.{statement}
 use Rattle.tables.proofs.are_queues_laid.Tie as tie

@@ -4,11 +4,11 @@ use mathlib.Core.Path.{_≡_}
 use mathlib.Core.Bool.{true}
 use native.Mathlib.Omega.{arith}
 use borrow.Author.Tests.{le-leb}
-use Rattle.laws.specs.Choose.{both-and}
+use Rattle.laws.proofs.Choose.{both-and}
 use Rattle.rules.specs.declared.Call.the-variants.{Flush}
 use Rattle.rules.specs.Machine.{Tables, slotOf}
 use Rattle.rules.specs.Agreement.{Agrees}
-use Rattle.invariants.specs.Fits.{callFits}
+use Rattle.rules.specs.Fits.{callFits}
 use Rattle.semaphore.specs.Record.{Stands}
 use Rattle.tables.specs.Layout.{laid}
 use Rattle.waiting.proofs.Laws.{Reads, Located, sized-bytes, located, loaded, waiter-tasks, waiter-few, did}

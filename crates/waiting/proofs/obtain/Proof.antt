@@ -5,13 +5,13 @@ use mathlib.Core.Bool.{true}
 use Prim.Native.Nat.{ℕ, _≤_}
 use native.Mathlib.Omega.{arith}
 use borrow.Author.Tests.{le-leb}
-use Rattle.laws.specs.Choose.{both-and}
+use Rattle.laws.proofs.Choose.{both-and}
 use Rattle.rules.specs.declared.Call.the-variants.{Obtain}
 use Rattle.rules.specs.Machine.{Tables, slotOf}
 use Rattle.rules.specs.Agreement.{Agrees}
 use Rattle.rules.specs.Semaphore.{ticksOf}
-use Rattle.invariants.specs.Fits.{callFits}
-use Rattle.invariants.specs.Refusals.{Caller}
+use Rattle.rules.specs.Fits.{callFits}
+use Rattle.rules.proofs.Invariants.Refusals.{Caller}
 use Rattle.semaphore.specs.Record.{Stands, TakenIs}
 use Rattle.tables.specs.Layout.{laid}
 use Rattle.waiting.proofs.Laws.{Reads, Located, sized-bytes, located, loaded, ready-task, caller-few, room, waiters-are, did}

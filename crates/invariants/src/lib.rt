@@ -1,1 +1,0 @@
-// Theorems about the rules (in specs/): no code.

@@ -1,0 +1,4 @@
+pub mod Choose
+pub mod All
+pub mod Fit
+pub mod Rows

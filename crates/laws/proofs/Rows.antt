@@ -1,0 +1,75 @@
+-- Laws of rows of one width, laid end to end: each is one law over any width.
+use mathlib.Core.Path.{_≡_, refl, sym, ap, ap₂, _∙_}
+use mathlib.Core.List.{List, [], _∷_, _++_, map}
+use Prim.Native.Nat.{ℕ, zero, suc, _+_, _*_, _<_}
+use native.Mathlib.Nat.{not-suc-le-zero, zero-add, mul-zero, mul-suc}
+use native.Mathlib.Omega.{arith}
+use lib.ListN.{length, getD, set, replicate, length-append, replicate-append-replicate, List·getD-append}
+use lib.Seq.{sets, getD-append-add}
+use Rattle.laws.specs.Rows.{tabulate, rows}
+use Rattle.laws.proofs.Fit.{tabulate-add, tabulate-same, sets-left, sets-right, sets-whole}
+
+-- every row has the width w
+pub data AllWide {A : Type 0} (w : ℕ) : List (List A) → Type 0 where
+  none : AllWide w []
+  one : {r : List A} {rs : List (List A)} → length r ≡ w → AllWide w rs → AllWide w (r ∷ rs)
+
+pub wide-map : {A B : Type 0} (w : ℕ) (f : A → List B) → ((a : A) → length (f a) ≡ w) → (xs : List A) → AllWide w (map f xs)
+wide-map w f e [] = none
+wide-map w f e (x ∷ xs) = one (e x) (wide-map w f e xs)
+
+module _ {A : Type 0} {w : ℕ} where
+  pub length-rows : (rs : List (List A)) → AllWide w rs → length (rows rs) ≡ w * length rs
+  unfolding rows
+  length-rows [] none = sym (mul-zero w)
+  length-rows (r ∷ rs) (one e a) = length-append r (rows rs) ∙ (rw (length-rows rs a, mul-suc, e) (omega arith))
+
+  -- element j of row i
+  pub getD-rows : (rs : List (List A)) → AllWide w rs → (i j : ℕ) (d : A) → j < w → getD (rows rs) (w * i + j) d ≡ getD (getD rs i []) j d
+  unfolding rows
+  getD-rows [] none i j d h = refl
+  getD-rows (r ∷ rs) (one e a) zero j d h =
+      let l : j < length r = omega arith in
+      ap (λ (k : ℕ). getD (r ++ rows rs) k d) (rw (mul-zero, zero-add) refl) ∙ List·getD-append r (rows rs) d j l
+  getD-rows (r ∷ rs) (one e a) (suc i) j d h =
+      ap (λ (k : ℕ). getD (r ++ rows rs) k d) (rw (mul-suc, e) (omega arith))
+      ∙ getD-append-add r (rows rs) (w * i + j) d
+      ∙ getD-rows rs a i j d h
+
+  -- a row replaced
+  pub sets-rows : (rs : List (List A)) → AllWide w rs → (i : ℕ) (r : List A) → i < length rs → length r ≡ w → sets (rows rs) (w * i) r ≡ rows (set rs i r)
+  unfolding rows
+  sets-rows [] none i v h l = absurd (not-suc-le-zero h)
+  sets-rows (r ∷ rs) (one e a) zero v h l =
+      ap (λ (k : ℕ). sets (r ++ rows rs) k v) (mul-zero w)
+      ∙ sets-left r (rows rs) 0 v (omega arith)
+      ∙ ap (λ (s : List A). s ++ rows rs) (sets-whole r v (omega arith))
+  sets-rows (r ∷ rs) (one e a) (suc i) v h l =
+      ap (λ (k : ℕ). sets (r ++ rows rs) k v) (rw (mul-suc, e) (omega arith))
+      ∙ sets-right r (rows rs) (w * i) v
+      ∙ ap (λ (s : List A). r ++ s) (sets-rows rs a i v (omega arith) l)
+
+-- w times n values are n rows of width w
+pub rows-tabulate : {A : Type 0} (w n : ℕ) (f : ℕ → A) → tabulate (w * n) f ≡ rows (tabulate n (λ i. tabulate w (λ j. f (w * i + j))))
+unfolding tabulate rows
+rows-tabulate w zero f = rw mul-zero refl
+rows-tabulate {A} w (suc n) f =
+    let e : w * suc n ≡ w + w * n = rw mul-suc (omega arith) in
+    ap (λ (k : ℕ). tabulate k f) e
+    ∙ tabulate-add w (w * n) f
+    ∙ ap₂ (λ (a b : List A). a ++ b)
+    (tabulate-same w f (λ j. f (w * 0 + j)) (λ j h. ap f (omega arith)))
+    (rows-tabulate w n (λ i. f (w + i))
+    ∙ ap {B = List A} rows
+    (tabulate-same n (λ i. tabulate w (λ j. f (w + (w * i + j)))) (λ i. tabulate w (λ j. f (w * suc i + j)))
+    (λ i h. tabulate-same w (λ j. f (w + (w * i + j))) (λ j. f (w * suc i + j)) (λ j l. ap f (rw mul-suc (omega arith))))))
+
+-- rows of `d` alone
+pub rows-replicate : {A : Type 0} (w n : ℕ) (d : A) → rows (replicate n (replicate w d)) ≡ replicate (w * n) d
+unfolding rows
+rows-replicate w zero d = rw mul-zero refl
+rows-replicate {A} w (suc n) d =
+    let e : w + w * n ≡ w * suc n = rw mul-suc (omega arith) in
+    ap (λ (r : List A). replicate w d ++ r) (rows-replicate w n d)
+    ∙ replicate-append-replicate w (w * n) d
+    ∙ ap (λ (k : ℕ). replicate k d) e

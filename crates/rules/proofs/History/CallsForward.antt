@@ -1,0 +1,165 @@
+-- Once started, every call and every run goes forward.
+use mathlib.Core.Path.{_≡_, refl}
+use mathlib.Core.Bool.{true}
+use mathlib.Core.List.{List, [], _∷_}
+use mathlib.Core.Logic.{⊎-elim}
+use Prim.Native.Nat.{ℕ, _≤_}
+use native.Mathlib.Omega.{arith}
+use lib.Dec.{eqb}
+use lib.ListN.{length, length-map}
+use borrow.Author.Tests.{eqb-true, leb-true, le-leb}
+use Rattle.laws.specs.Choose.{choose, _and_, _or_}
+use Rattle.laws.proofs.Choose.{choose-cases, and-both, or-either, if-yes}
+use Rattle.rules.specs.declared.Call.{Call}
+use Rattle.rules.specs.declared.Call.the-variants.{Start, Create, Ident, Delete, Obtain, Release, Flush, Tick}
+use Rattle.rules.specs.declared.Wait.{Wait}
+use Rattle.rules.specs.Numbers.{maxTasks, maxSlots, within}
+use Rattle.rules.specs.Machine.{Slot, Tables, slotOf, putSlot, slotNamed}
+use Rattle.rules.specs.Agreement.{sizesFit, agrees}
+use Rattle.rules.specs.Semaphore.{Taken, Given, takeStep, giveStep, passStep, flushStep}
+use Rattle.rules.specs.Calls.{Outcome, unless, wakeAll, openSlot, startRefusal, start, createRefusal, newSemaphore, create, firstNamed, ident, deleteRefusal, delete, obtainRefusal, obtain, releaseRefusal, release, flushRefusal, flush, tickedSlot, tick, perform, step}
+use Rattle.rules.specs.Runs.{Request, stepOf, after}
+use Rattle.rules.proofs.History.Forward.{Onward, Forward, onward-same, onward-new, onward-freed, forward-refl, forward-trans, forward-slots, forward-put, woken-slots, ticked-slot}
+
+-- a machine that is started, with no more slots than there may be
+pub record Started (t : Tables) : Type 0 where
+  pub tasks : 1 ≤ length (t .tasks)
+  pub slots : length (t .slots) ≤ maxSlots
+
+pub agreeing-started : (t : Tables) → agrees t ≡ true → 1 ≤ length (t .slots) → Started t
+unfolding agrees sizesFit
+agreeing-started t a s = ⊎-elim empty sized (or-either _ _ (and-both _ _ a .0))
+  where
+    empty : (eqb (length (t .tasks)) 0 and eqb (length (t .slots)) 0) ≡ true → Started t
+    empty e = let z : length (t .slots) ≡ 0 = eqb-true _ _ (and-both _ _ e .1) in absurd (omega arith)
+
+    sized : (within 1 maxTasks (length (t .tasks)) and within 1 maxSlots (length (t .slots))) ≡ true → Started t
+    sized e = record {
+      tasks = leb-true _ _ (and-both _ _ (and-both _ _ e .0) .0);
+      slots = leb-true _ _ (and-both _ _ (and-both _ _ e .1) .1);
+    }
+
+-- one semaphore's steps keep its generation, and it lives on
+same-taken : (s : Slot) (caller place : ℕ) (wait : Wait) → Onward s (takeStep s caller place wait .slot)
+unfolding takeStep
+same-taken s caller place wait =
+    choose-cases P _ _ _ (λ e. onward-same s _ refl refl)
+    (λ e. choose-cases P _ _ _
+    (λ e. choose-cases P _ _ _ (λ e. onward-same s _ refl refl) (λ e. onward-same s _ refl refl))
+    (λ e. choose-cases P _ _ _ (λ e. onward-same s _ refl refl) (λ e. onward-same s _ refl refl)))
+  where
+    P : Taken → Type 0
+    P x = Onward s (x .slot)
+
+same-given : (s : Slot) (caller : ℕ) → Onward s (giveStep s caller .slot)
+unfolding giveStep passStep
+same-given s caller =
+    choose-cases P _ _ _ (λ e. onward-same s _ refl refl)
+    (λ e. choose-cases P _ _ _ (λ e. onward-same s _ refl refl)
+    (λ e. choose-cases P _ _ _ (λ e. onward-same s _ refl refl)
+    (λ e. choose-cases P _ _ _ (λ e. onward-same s _ refl refl) (λ e. onward-same s _ refl refl))))
+  where
+    P : Given → Type 0
+    P x = Onward s (x .slot)
+
+newer : (s : Slot) (caller name count attributes : ℕ) → Onward s (newSemaphore (s .generation) caller name count attributes)
+unfolding newSemaphore
+newer s caller name count attributes = onward-new s _ (omega arith)
+
+-- the outcome's tables are forward of these
+pub record Went (t : Tables) (o : Outcome) : Type 0 where
+  pub forward : Forward t (o .tables)
+
+module _ (t : Tables) where
+  -- a refusal keeps the tables
+  unless-went : (refusal : ℕ) (o : Outcome) → (refusal ≡ 0 → Went t o) → Went t (unless refusal t o)
+  unless-went refusal o f =
+      choose-cases (Went t) (eqb refusal 0) o _ (λ e. f (eqb-true refusal 0 e)) (λ e. record { forward = forward-refl t })
+
+  -- a slot is put, and then tasks are woken
+  woken-forward : (n : ℕ) (s : Slot) (qs : List ℕ) (answer : ℕ) → Onward (slotOf t n) s → Forward t (wakeAll (putSlot t n s) qs answer)
+  woken-forward n s qs answer o =
+      forward-slots (wakeAll (putSlot t n s) qs answer) (woken-slots (putSlot t n s) qs answer) (forward-put t n s o)
+
+  start-refused : (slots : ℕ) (priorities : List ℕ) → 1 ≤ length (t .tasks) → startRefusal t slots priorities ≡ 14
+  unfolding startRefusal
+  start-refused slots priorities h = if-yes _ _ (le-leb 1 (length (t .tasks)) h)
+
+  start-went : (slots : ℕ) (priorities : List ℕ) → 1 ≤ length (t .tasks) → Went t (start t slots priorities)
+  unfolding start
+  start-went slots priorities h =
+      unless-went (startRefusal t slots priorities) _ (λ e. absurd (omega (arith, start-refused slots priorities h)))
+
+  create-went : (caller name count attributes : ℕ) → Went t (create t caller name count attributes)
+  unfolding create
+  create-went caller name count attributes =
+      unless-went (createRefusal t caller name count attributes) _
+      (λ e. record { forward = forward-put t (openSlot t) _ (newer (slotOf t (openSlot t)) caller name count attributes) })
+
+  ident-went : (name : ℕ) → Went t (ident t name)
+  unfolding ident
+  ident-went name =
+      unless-went (choose (eqb name 0 or eqb (firstNamed name (t .slots) 1) 0) 3 0) _ (λ e. record { forward = forward-refl t })
+
+  delete-went : (caller id : ℕ) → Went t (delete t caller id)
+  unfolding delete
+  delete-went caller id =
+      unless-went (deleteRefusal t caller id) _ (λ e. record { forward = woken-forward (slotNamed t id) _ _ _ (onward-freed (slotOf t (slotNamed t id))) })
+
+  obtain-went : (caller id : ℕ) (wait : Wait) → Went t (obtain t caller id wait)
+  unfolding obtain
+  obtain-went caller id wait =
+      unless-went (obtainRefusal t caller id wait) _ (λ e. choose-cases (Went t) _ _ _
+      (λ f. record { forward = forward-slots _ refl (put _) }) (λ f. record { forward = put _ }))
+    where
+      put : (place : ℕ) → Forward t (putSlot t (slotNamed t id) (takeStep (slotOf t (slotNamed t id)) caller place wait .slot))
+      put place = forward-put t (slotNamed t id) _ (same-taken (slotOf t (slotNamed t id)) caller place wait)
+
+  release-went : (caller id : ℕ) → Went t (release t caller id)
+  unfolding release
+  release-went caller id =
+      unless-went (releaseRefusal t caller id) _ (λ e. record { forward = choose-cases (Forward t) _ _ _ (λ f. put) (λ f. forward-slots _ refl put) })
+    where
+      put : Forward t (putSlot t (slotNamed t id) (giveStep (slotOf t (slotNamed t id)) caller .slot))
+      put = forward-put t (slotNamed t id) _ (same-given (slotOf t (slotNamed t id)) caller)
+
+  flush-went : (caller id : ℕ) → Went t (flush t caller id)
+  unfolding flush flushStep
+  flush-went caller id =
+      unless-went (flushRefusal t caller id) _ (λ e. record { forward = woken-forward (slotNamed t id) _ _ _ (onward-same (slotOf t (slotNamed t id)) _ refl refl) })
+
+  tick-went : Went t (tick t)
+  unfolding tick tickedSlot
+  tick-went = record {
+    forward = record {
+      sameSize = length-map (t .slots) (tickedSlot t);
+      onward = λ n. rw (ticked-slot t n) (onward-same (slotOf t n) _ refl refl);
+    };
+  }
+
+perform-went : (t : Tables) (call : Call) (priorities : List ℕ) → 1 ≤ length (t .tasks) → Went t (perform t call priorities)
+unfolding perform
+perform-went t (Start slots) priorities h = start-went t slots priorities h
+perform-went t (Create caller name count attributes) priorities h = create-went t caller name count attributes
+perform-went t (Ident name) priorities h = ident-went t name
+perform-went t (Delete caller id) priorities h = delete-went t caller id
+perform-went t (Obtain caller id wait) priorities h = obtain-went t caller id wait
+perform-went t (Release caller id) priorities h = release-went t caller id
+perform-went t (Flush caller id) priorities h = flush-went t caller id
+perform-went t Tick priorities h = tick-went t
+
+step-went : (t : Tables) (call : Call) (priorities : List ℕ) → 1 ≤ length (t .slots) → Went t (step t call priorities)
+unfolding step
+step-went t call priorities h =
+    choose-cases (Went t) (agrees t) _ _ (λ a. perform-went t call priorities (agreeing-started t a h .tasks))
+    (λ a. record { forward = forward-refl t })
+
+pub step-forward : (t : Tables) (call : Call) (priorities : List ℕ) → 1 ≤ length (t .slots) → Forward t (step t call priorities .tables)
+step-forward t call priorities h = step-went t call priorities h .forward
+
+pub run-forward : (t : Tables) (requests : List Request) → 1 ≤ length (t .slots) → Forward t (after t requests)
+unfolding after
+run-forward t [] h = forward-refl t
+run-forward t (r ∷ rs) h =
+    let f : Forward t (stepOf t r .tables) = step-forward t (r .call) (r .priorities) h in
+    forward-trans f (run-forward (stepOf t r .tables) rs (omega arith))

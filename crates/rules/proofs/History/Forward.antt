@@ -1,0 +1,80 @@
+-- What a call does to a slot: its generation never falls, and it comes to life only with a new generation.
+use mathlib.Core.Path.{_≡_, refl, sym, subst}
+use mathlib.Core.Bool.{true, false≢true}
+use mathlib.Core.List.{List, [], _∷_, map}
+use Prim.Native.Nat.{ℕ, pred, _≤_, _<_}
+use native.Mathlib.Omega.{arith}
+use native.Mathlib.Decide.{ℕ-discrete, decLt}
+use lib.ListN.{length, getD, set, length-set, List·getD-map}
+use lib.Seq.{getD-set-same, getD-set-other, set-out}
+use Rattle.rules.specs.Machine.{Slot, Tables, freeSlot, slotOf, putSlot, isLive}
+use Rattle.rules.specs.Calls.{wakeAll, stillWaiting, tickedSlot}
+
+pub record Onward (s s′ : Slot) : Type 0 where
+  pub rises : s .generation ≤ s′ .generation
+  pub lives : s .generation ≡ s′ .generation → isLive s′ ≡ true → isLive s ≡ true
+
+-- every slot goes onward, and there are as many
+pub record Forward (t t′ : Tables) : Type 0 where
+  pub sameSize : length (t′ .slots) ≡ length (t .slots)
+  pub onward : (n : ℕ) → Onward (slotOf t n) (slotOf t′ n)
+
+pub onward-refl : (s : Slot) → Onward s s
+onward-refl s = record { rises = omega arith; lives = λ e l. l }
+
+-- the same generation, and live as before
+pub onward-same : (s s′ : Slot) → s′ .generation ≡ s .generation → s′ .live ≡ s .live → Onward s s′
+onward-same s s′ g l =
+    record { rises = omega arith; lives = λ e m. subst (λ (x : ℕ). lib.Dec.eqb x 1 ≡ true) l m }
+
+pub onward-new : (s s′ : Slot) → s .generation < s′ .generation → Onward s s′
+onward-new s s′ h = record { rises = omega arith; lives = λ e m. absurd (omega arith) }
+
+pub onward-freed : (s : Slot) → Onward s (freeSlot (s .generation))
+onward-freed s = record { rises = omega arith; lives = λ e m. absurd (false≢true m) }
+
+pub onward-trans : {s s′ s″ : Slot} → Onward s s′ → Onward s′ s″ → Onward s s″
+onward-trans {s} {s′} {s″} a b = record {
+  rises = omega arith;
+  lives = λ e m.
+      let f : s .generation ≡ s′ .generation = omega arith in
+      let g : s′ .generation ≡ s″ .generation = omega arith in
+      a .lives f (b .lives g m);
+}
+
+pub forward-refl : (t : Tables) → Forward t t
+forward-refl t = record { sameSize = refl; onward = λ n. onward-refl (slotOf t n) }
+
+pub forward-trans : {t t′ t″ : Tables} → Forward t t′ → Forward t′ t″ → Forward t t″
+forward-trans a b = record { sameSize = cc; onward = λ n. onward-trans (a .onward n) (b .onward n) }
+
+-- the slots alone decide
+pub forward-slots : {t t′ : Tables} (u : Tables) → u .slots ≡ t′ .slots → Forward t t′ → Forward t u
+forward-slots {t} {t′} u e f =
+    subst (λ (l : List Slot). Forward t (record { tasks = u .tasks; slots = l })) (sym e) (record { sameSize = f .sameSize; onward = f .onward })
+
+-- a look after a put finds what was put or what was there
+pub set-cases : {A : Type 0} (P : A → Type 0) (l : List A) (i j : ℕ) (a d : A) → (j ≡ i → P a) → P (getD l j d) → P (getD (set l i a) j d)
+set-cases P l i j a d f g = elim (ℕ-discrete j i) [ yes e ↦ here e (decLt j (length l)) | no o ↦ rw (getD-set-other l i j a d o) g ]
+  where
+    here : j ≡ i → Dec (j < length l) → P (getD (set l i a) j d)
+    here e (yes b) = subst (λ (k : ℕ). P (getD (set l k a) j d)) e (rw (getD-set-same l j a d b) (f e))
+    here e (no o) = rw (set-out l i a (omega arith)) g
+
+pub forward-put : (t : Tables) (n : ℕ) (s : Slot) → Onward (slotOf t n) s → Forward t (putSlot t n s)
+forward-put t n s o = record {
+  sameSize = length-set (t .slots) (pred n) s;
+  onward = λ m. set-cases (Onward (slotOf t m)) (t .slots) (pred n) (pred m) s (freeSlot 0)
+      (λ e. subst (λ (k : ℕ). Onward (getD (t .slots) k (freeSlot 0)) s) (sym e) o) (onward-refl (slotOf t m));
+}
+
+-- waking tasks leaves the slots
+pub woken-slots : (t : Tables) (qs : List ℕ) (answer : ℕ) → wakeAll t qs answer .slots ≡ t .slots
+unfolding wakeAll
+woken-slots t [] answer = refl
+woken-slots t (q ∷ qs) answer = woken-slots _ qs answer
+
+-- a tick alters queues alone
+pub ticked-slot : (t : Tables) (n : ℕ) → getD (map (tickedSlot t) (t .slots)) (pred n) (freeSlot 0) ≡ tickedSlot t (slotOf t n)
+unfolding tickedSlot stillWaiting
+ticked-slot t n = List·getD-map (tickedSlot t) (t .slots) (pred n) (freeSlot 0)

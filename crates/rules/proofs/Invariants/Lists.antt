@@ -1,0 +1,148 @@
+-- Laws of lists by their places, of how often a number stands in a list, and of lists in order.
+use mathlib.Core.Path.{_≡_, refl, sym, subst}
+use mathlib.Core.Bool.{Bool, true, false}
+use mathlib.Core.List.{List, [], _∷_, map}
+use mathlib.Core.Logic.{⊎-elim, _≢_}
+use Prim.Native.Nat.{ℕ, zero, suc, pred, _+_, _≤_, _<_}
+use native.Mathlib.Omega.{arith}
+use native.Mathlib.Decide.{ℕ-discrete, decLt}
+use native.Mathlib.Nat.{not-suc-le-zero, le-of-suc-le-suc}
+use lib.Dec.{leb, eqb}
+use lib.ListN.{length, getD, set, drop, List·getD-map}
+use lib.Seq.{getD-set-same, getD-set-other, set-out}
+use borrow.Author.Tests.{leb-true, leb-false, eqb-true, eq-eqb}
+use Rattle.laws.specs.Choose.{bit}
+use Rattle.laws.proofs.Choose.{tested, if-yes, if-no, never, choose-cases}
+use Rattle.rules.specs.Agreement.{occurs}
+use Rattle.rules.specs.Semaphore.{ahead, insertAt}
+
+-- ---- places
+
+module _ {A : Type 0} where
+  -- a replaced place holds the new value, the others what they held
+  pub set-cases : (P : ℕ → A → Type 0) (l : List A) (i : ℕ) (a d : A) (j : ℕ) → i < length l → (j ≡ i → P j a) → (j ≢ i → P j (getD l j d)) → P j (getD (set l i a) j d)
+  set-cases P l i a d j h same other =
+      elim (ℕ-discrete j i) [
+        | yes e ↦ subst (λ (k : ℕ). P k (getD (set l i a) k d)) (sym e) (rw getD-set-same (rw e at (same e)))
+        | no n ↦ rw getD-set-other (other n)
+      ]
+
+  -- what holds of every place holds of every place after one is replaced
+  pub set-all : (P : A → Type 0) (l : List A) (i : ℕ) (a d : A) → ((j : ℕ) → P (getD l j d)) → P a → (j : ℕ) → P (getD (set l i a) j d)
+  set-all P l i a d all new j =
+      elim (decLt i (length l)) [
+        | yes h ↦ set-cases (λ k. P) l i a d j h (λ e. new) (λ n. all j)
+        | no n ↦ let out : length l ≤ i = omega arith in rw (set-out l i a out) (all j)
+      ]
+
+  -- a function that keeps the value outside
+  pub getD-map : (f : A → A) (l : List A) (j : ℕ) (d : A) → f d ≡ d → getD (map f l) j d ≡ f (getD l j d)
+  getD-map f l j d e = subst (λ (z : A). getD (map f l) j z ≡ f (getD l j d)) e (List·getD-map f l j d)
+
+-- one place of the second differs from the first, and is a
+pub record Updated {A : Type 0} (f g : ℕ → A) (i : ℕ) (a : A) : Type 0 where
+  pub same : g i ≡ a
+  pub other : (j : ℕ) → j ≢ i → g j ≡ f j
+
+pub set-updated : {A : Type 0} (l : List A) (i : ℕ) (a d : A) → i < length l → Updated (λ j. getD l j d) (λ j. getD (set l i a) j d) i a
+set-updated l i a d h = record { same = getD-set-same l i a d h; other = λ j n. getD-set-other l i j a d n }
+
+pub updated-cases : {A : Type 0} {f g : ℕ → A} {i : ℕ} {a : A} (P : ℕ → A → Type 0) → Updated f g i a → (j : ℕ) → P i a → (j ≢ i → P j (f j)) → P j (g j)
+updated-cases {A} {f} {g} {i} {a} P u j same other =
+    elim (ℕ-discrete j i) [
+      | yes e ↦ subst (λ (k : ℕ). P k (g k)) (sym e) (subst (P i) (sym (u .same)) same)
+      | no n ↦ subst (P j) (sym (u .other j n)) (other n)
+    ]
+
+-- ---- how often a number stands in a list
+
+pub bit-most : (b : Bool) → bit b ≤ 1
+bit-most b = choose-cases (λ (n : ℕ). n ≤ 1) b 1 0 (λ e. omega arith) (λ e. omega arith)
+
+pub bit-yes : (b : Bool) → b ≡ true → bit b ≡ 1
+bit-yes b e = if-yes 1 0 e
+
+pub bit-no : (b : Bool) → b ≡ false → bit b ≡ 0
+bit-no b e = if-no 1 0 e
+
+-- a bit of 1 or more is a test that holds
+pub bit-true : (b : Bool) → 1 ≤ bit b → b ≡ true
+bit-true b h = ⊎-elim (λ (e : b ≡ true). e) (λ (e : b ≡ false). absurd (omega (arith, bit-no b e))) (tested b)
+
+pub bit-same : (q : ℕ) → bit (eqb q q) ≡ 1
+bit-same q = if-yes 1 0 (eq-eqb q q refl)
+
+pub occurs-none : (q : ℕ) → occurs q [] ≡ 0
+unfolding occurs
+occurs-none q = refl
+
+pub occurs-cons : (q x : ℕ) (xs : List ℕ) → occurs q (x ∷ xs) ≡ bit (eqb q x) + occurs q xs
+unfolding occurs
+occurs-cons q x xs = refl
+
+-- an entry occurs
+pub occurs-at : (xs : List ℕ) (k : ℕ) → k < length xs → 1 ≤ occurs (getD xs k 0) xs
+occurs-at [] k h = absurd (not-suc-le-zero h)
+occurs-at (x ∷ xs) zero h = omega (arith, occurs-cons x x xs, bit-same x)
+occurs-at (x ∷ xs) (suc k) h = omega (arith, occurs-cons (getD xs k 0) x xs, occurs-at xs k (omega arith))
+
+-- what passes no test that every entry passes does not occur
+pub occurs-not : (P : ℕ → Bool) (q : ℕ) → P q ≡ false → (xs : List ℕ) → ((k : ℕ) → k < length xs → P (getD xs k 0) ≡ true) → occurs q xs ≡ 0
+occurs-not P q n [] all = occurs-none q
+occurs-not P q n (x ∷ xs) all =
+    omega (arith, occurs-cons q x xs, bit-no (eqb q x) other, occurs-not P q n xs (λ k h. all (suc k) (omega arith)))
+  where
+    other : eqb q x ≡ false
+    other = ⊎-elim (λ (e : eqb q x ≡ true). never (all 0 (omega arith)) (rw (eqb-true q x e) at n)) (λ (e : eqb q x ≡ false). e) (tested (eqb q x))
+
+-- an empty queue
+pub occurs-empty : (q : ℕ) (xs : List ℕ) → length xs ≡ 0 → occurs q xs ≡ 0
+occurs-empty q [] e = occurs-none q
+occurs-empty q (x ∷ xs) e = absurd (omega arith)
+
+pub occurs-insert : (q x k : ℕ) (xs : List ℕ) → occurs q (insertAt k x xs) ≡ bit (eqb q x) + occurs q xs
+occurs-insert q x zero xs = occurs-cons q x xs
+occurs-insert q x (suc k) [] = occurs-cons q x []
+occurs-insert q x (suc k) (y ∷ ys) = omega (arith, occurs-cons q y (insertAt k x ys), occurs-cons q y ys, occurs-insert q x k ys)
+
+-- the first and the others
+pub occurs-first : (q : ℕ) (xs : List ℕ) → 1 ≤ length xs → occurs q xs ≡ bit (eqb q (getD xs 0 0)) + occurs q (drop 1 xs)
+occurs-first q [] h = absurd (not-suc-le-zero h)
+occurs-first q (x ∷ xs) h = occurs-cons q x xs
+
+-- ---- lists in order
+
+-- numbers in order of urgency, none more urgent than `low`
+abbrev pub Ascending : (ℕ → ℕ) → ℕ → List ℕ → Type 0
+Ascending u low [] = Unit {0}
+Ascending u low (x ∷ xs) = (low ≤ u x) × Ascending u (u x) xs
+
+module _ (u : ℕ → ℕ) where
+  pub ascending-lower : (low low′ : ℕ) (xs : List ℕ) → low′ ≤ low → Ascending u low xs → Ascending u low′ xs
+  ascending-lower low low′ [] h a = tt
+  ascending-lower low low′ (x ∷ xs) h a = let l : low ≤ u x = a .0 in (omega arith, a .1)
+
+  pub ascending-rest : (low : ℕ) (xs : List ℕ) → Ascending u low xs → Ascending u low (drop 1 xs)
+  ascending-rest low [] a = tt
+  ascending-rest low (x ∷ xs) a = ascending-lower (u x) low xs (a .0) (a .1)
+
+  -- a task that joins behind all of equal or more urgent priority
+  pub ascending-insert : (q low : ℕ) (xs : List ℕ) → low ≤ u q → Ascending u low xs → Ascending u low (insertAt (ahead u (u q) xs) q xs)
+  unfolding ahead
+  ascending-insert q low [] h a = (h, tt)
+  ascending-insert q low (x ∷ xs) h a =
+      choose-cases (λ (k : ℕ). Ascending u low (insertAt k q (x ∷ xs))) (leb (u x) (u q)) (suc (ahead u (u q) xs)) 0
+      (λ e. (a .0, ascending-insert q (u x) xs (leb-true (u x) (u q) e) (a .1)))
+      (λ e. let l : u q < u x = leb-false (u x) (u q) e in (h, (omega arith, a .1)))
+
+  -- by neighbours
+  pub ascending-at : (low : ℕ) (xs : List ℕ) → Ascending u low xs → (k : ℕ) → k < pred (length xs) → u (getD xs k 0) ≤ u (getD xs (suc k) 0)
+  ascending-at low [] a k h = absurd (not-suc-le-zero h)
+  ascending-at low (x ∷ []) a k h = absurd (not-suc-le-zero h)
+  ascending-at low (x ∷ y ∷ ys) a zero h = a .1 .0
+  ascending-at low (x ∷ y ∷ ys) a (suc k) h = ascending-at (u x) (y ∷ ys) (a .1) k (le-of-suc-le-suc h)
+
+  pub ascending-of : (low : ℕ) (xs : List ℕ) → (1 ≤ length xs → low ≤ u (getD xs 0 0)) → ((k : ℕ) → k < pred (length xs) → u (getD xs k 0) ≤ u (getD xs (suc k) 0)) → Ascending u low xs
+  ascending-of low [] first f = tt
+  ascending-of low (x ∷ []) first f = (first (omega arith), tt)
+  ascending-of low (x ∷ y ∷ ys) first f = (first (omega arith), ascending-of (u x) (y ∷ ys) (λ h. f 0 (omega arith)) (λ k h. f (suc k) (omega arith)))

@@ -1,0 +1,137 @@
+-- start and create keep the facts.
+use mathlib.Core.Path.{_≡_, refl, sym, subst, subst₂, fun-ext}
+use mathlib.Core.Bool.{true, false}
+use mathlib.Core.List.{List, [], _∷_}
+use mathlib.Core.Logic.{⊎-elim}
+use Prim.Native.Nat.{ℕ, suc, _+_, _≤_, _<_}
+use native.Mathlib.Omega.{arith}
+use lib.Dec.{leb, ltb, eqb}
+use lib.ListN.{length, getD, replicate, length-map, length-replicate, getD-replicate, List·getD-map}
+use borrow.Author.Tests.{eqb-false, leb-true, leb-false, ltb-true}
+use Rattle.laws.specs.Choose.{choose, _and_, _or_, isnt}
+use Rattle.laws.proofs.Choose.{tested, never, and-both, both-and, or-second, isnt-false, choose-cases}
+use Rattle.laws.specs.All.{all}
+use Rattle.laws.proofs.All.{all-at}
+use Rattle.rules.specs.Numbers.{maxTasks, maxSlots, maxPriority, maxGeneration, maxNumber, within, allowed, isBinary, isSimple}
+use Rattle.rules.specs.Machine.{Slot, Tables, freeSlot, slotOf, putSlot, isLive}
+use Rattle.rules.specs.Agreement.{sizesFit}
+use Rattle.rules.specs.Calls.{newTask, startRefusal, started, start, firstFree, openSlot, createRefusal, newSemaphore, create, answered}
+use Rattle.rules.proofs.Invariants.Facts.{nthTask, nthSlot, TaskFits, Linked, Facts, free-fits, everywhere}
+use Rattle.rules.proofs.Invariants.PartsKept.{created}
+use Rattle.rules.proofs.Invariants.Slots.{new-fits}
+use Rattle.rules.proofs.Invariants.Refusals.{must, mustnt, unless-kept, Caller, task-only}
+
+-- ---- start
+
+newTask-fits : (p : ℕ) → TaskFits (newTask p)
+unfolding choose
+newTask-fits p = record { answer = refl; awaited = omega arith; ticks = omega arith; atRest = λ e. (refl, refl) }
+
+module _ (slots : ℕ) (priorities : List ℕ) where
+  task-new : (i : ℕ) → nthTask (started slots priorities) i ≡ newTask (getD priorities i 0)
+  unfolding started
+  task-new i = List·getD-map newTask priorities i 0
+
+  slot-new : (j : ℕ) → nthSlot (started slots priorities) j ≡ freeSlot 0
+  unfolding started
+  slot-new =
+      everywhere (λ (s : Slot). s ≡ freeSlot 0) (replicate slots (freeSlot 0)) (freeSlot 0) refl
+      (λ j h. getD-replicate slots j (freeSlot 0) (freeSlot 0) (rw length-replicate at h))
+
+  tasks-new : length (started slots priorities .tasks) ≡ length priorities
+  unfolding started
+  tasks-new = length-map priorities newTask
+
+  slots-new : length (started slots priorities .slots) ≡ slots
+  unfolding started
+  slots-new = length-replicate slots (freeSlot 0)
+
+  pub started-facts : (within 1 maxTasks (length priorities) and within 1 maxSlots slots) ≡ true → ((i : ℕ) → i < length priorities → within 1 maxPriority (getD priorities i 0) ≡ true) → Facts (started slots priorities)
+  unfolding sizesFit
+  started-facts sizes urgent =
+      record {
+        sizes = or-second _ _ (rw (tasks-new, slots-new) sizes);
+        urgent = λ i h.
+            let e = and-both _ _ (urgent i (rw tasks-new at h)) in
+            rw (task-new i) (leb-true _ _ (e .0), leb-true _ _ (e .1));
+        tasks = λ i. rw (task-new i) (newTask-fits (getD priorities i 0));
+        slots = λ j. rw (slot-new j) (free-fits _ _ 0 (omega arith));
+        linked =
+            subst₂ Linked (fun-ext (λ i. sym (task-new i))) (fun-ext (λ j. sym (slot-new j)))
+            (record { counted = λ i j l. never l refl; named = λ i w. never w refl });
+      }
+
+pub start-kept : (t : Tables) (slots : ℕ) (priorities : List ℕ) → Facts t → Facts (start t slots priorities .tables)
+unfolding start startRefusal
+start-kept t slots priorities f =
+    unless-kept _ t (answered 0 0 (started slots priorities)) f
+    (λ e.
+    let fresh = mustnt (leb 1 (length (t .tasks))) 14 _ (omega arith) e in
+    let sizes = must (within 1 maxTasks (length priorities) and within 1 maxSlots slots) _ 10 (omega arith) (fresh .1) in
+    let urgent = must (all (length priorities) (λ i. within 1 maxPriority (getD priorities i 0))) 0 19 (omega arith) (sizes .1) in
+    started-facts slots priorities (sizes .0) (all-at _ _ (urgent .0)))
+
+-- ---- create
+
+-- n is the number of a free slot that can have one more generation, where m slots stand before these
+record Open (ss : List Slot) (m n : ℕ) : Type 0 where
+  place : ℕ
+  within : place < length ss
+  number : n ≡ suc (m + place)
+  free : isLive (getD ss place (freeSlot 0)) ≡ false
+  generation : getD ss place (freeSlot 0) .generation < maxGeneration
+
+first-free : (ss : List Slot) (m : ℕ) → 1 ≤ firstFree ss (suc m) → Open ss m (firstFree ss (suc m))
+unfolding firstFree
+first-free [] m = λ h. absurd (omega arith)
+first-free (s ∷ ss) m =
+    choose-cases (λ (n : ℕ). 1 ≤ n → Open (s ∷ ss) m n) (isnt (isLive s) and ltb (s .generation) maxGeneration) (suc m) (firstFree ss (suc (suc m)))
+    (λ e h. record { place = 0; within = omega arith; number = omega arith; free = isnt-false _ (and-both _ _ e .0); generation = ltb-true _ _ (and-both _ _ e .1) })
+    (λ e h. let o = first-free ss (suc m) h in later o)
+  where
+    later : {n : ℕ} → Open ss (suc m) n → Open (s ∷ ss) m n
+    later o = record { place = suc (o .place); within = omega (arith, o .within); number = omega (arith, o .number); free = o .free; generation = o .generation }
+
+new-queue : (g caller name count attributes : ℕ) → length (newSemaphore g caller name count attributes .queue) ≡ 0
+unfolding newSemaphore
+new-queue g caller name count attributes = refl
+
+-- what a create that is not refused has checked
+record Checked (t : Tables) (caller name count attributes : ℕ) : Type 0 where
+  who : Caller t caller
+  named : 1 ≤ name
+  right : allowed attributes ≡ true
+  small : (isBinary attributes or isSimple attributes) ≡ true → count ≤ 1
+  room : Open (t .slots) 0 (openSlot t)
+
+create-checked : (t : Tables) (caller name count attributes : ℕ) → createRefusal t caller name count attributes ≡ 0 → Checked t caller name count attributes
+unfolding createRefusal
+create-checked t caller name count attributes e =
+    let who = task-only t caller _ e in
+    let named = mustnt (eqb name 0) 3 _ (omega arith) (who .1) in
+    let right = must (allowed attributes) _ 11 (omega arith) (named .1) in
+    let small = mustnt ((isBinary attributes or isSimple attributes) and leb 2 count) 10 _ (omega arith) (right .1) in
+    let room = mustnt (eqb (openSlot t) 0) 5 0 (omega arith) (small .1) in
+    let nameless : name ≡ 0 → ⊥ = eqb-false _ _ (named .0) in
+    let some : openSlot t ≡ 0 → ⊥ = eqb-false _ _ (room .0) in
+    record { who = who .0; named = omega arith; right = right .0; small = limited (small .0); room = first-free (t .slots) 0 (omega arith) }
+  where
+    limited : ((isBinary attributes or isSimple attributes) and leb 2 count) ≡ false → (isBinary attributes or isSimple attributes) ≡ true → count ≤ 1
+    limited e b = ⊎-elim (λ (m : leb 2 count ≡ true). never (both-and b m) e) (λ (m : leb 2 count ≡ false). omega (arith, leb-false 2 count m)) (tested (leb 2 count))
+
+pub create-kept : (t : Tables) (caller name count attributes : ℕ) → name ≤ maxNumber → count ≤ maxNumber → Facts t → Facts (create t caller name count attributes .tables)
+unfolding create
+create-kept t caller name count attributes name-fits count-fits f =
+    unless-kept (createRefusal t caller name count attributes) t (answered 0 _ (putSlot t (openSlot t) (made (openSlot t)))) f
+    (λ e. at (openSlot t) (create-checked t caller name count attributes e) (create-checked t caller name count attributes e .room))
+  where
+    made : ℕ → Slot
+    made n = newSemaphore (slotOf t n .generation) caller name count attributes
+
+    at : (n : ℕ) → Checked t caller name count attributes → Open (t .slots) 0 n → Facts (putSlot t n (made n))
+    at n k o =
+        let number : n ≡ suc (o .place) = omega (arith, o .number) in
+        subst (λ (n : ℕ). Facts (putSlot t n (made n))) (sym number)
+        (created t f (o .place) (made (suc (o .place))) (o .within) (o .free)
+        (new-fits _ _ _ caller name count attributes (o .generation) (k .who .first) (k .who .last) (k .named) name-fits count-fits (k .right) (k .small))
+        (new-queue _ caller name count attributes))

@@ -1,0 +1,93 @@
+-- A queue's entries are different tasks of the N: there is room in it for any task that does not wait.
+use mathlib.Core.Path.{_≡_, refl, sym, subst, ap, _∙_}
+use mathlib.Core.Bool.{true, false}
+use mathlib.Core.List.{List, [], _∷_}
+use Prim.Native.Nat.{ℕ, zero, suc, _+_, _≤_, _<_}
+use native.Mathlib.Nat.{not-suc-le-zero}
+use native.Mathlib.Omega.{arith}
+use native.Mathlib.Decide.{ℕ-discrete}
+use lib.Dec.{eqb}
+use lib.ListN.{length, getD}
+use borrow.Author.Tests.{ne-eqb}
+use Rattle.laws.specs.Choose.{bit}
+use Rattle.laws.proofs.Choose.{and-both}
+use Rattle.rules.specs.Machine.{Tables, waits, isLive}
+use Rattle.rules.specs.Agreement.{occurs}
+use Rattle.rules.proofs.Invariants.Lists.{bit-no, bit-same, occurs-none, occurs-cons, occurs-at}
+use Rattle.rules.proofs.Invariants.Facts.{nthTask, nthSlot, Facts, waits-within}
+use Rattle.rules.proofs.Invariants.Links.{waits-there, once, nowhere}
+use Rattle.rules.proofs.Invariants.PartsKept.{below}
+
+-- how many entries are of 1..n
+counts : ℕ → List ℕ → ℕ
+counts zero xs = 0
+counts (suc n) xs = counts n xs + occurs (suc n) xs
+
+counts-none : (n : ℕ) → counts n [] ≡ 0
+unfolding counts
+counts-none zero = refl
+counts-none (suc n) = omega (arith, counts-none n, occurs-none (suc n))
+
+beyond : (n x : ℕ) (xs : List ℕ) → n < x → counts n (x ∷ xs) ≡ counts n xs
+unfolding counts
+beyond zero x xs h = refl
+beyond (suc n) x xs h =
+    omega (arith, beyond n x xs (omega arith), occurs-cons (suc n) x xs, bit-no (eqb (suc n) x) (ne-eqb (suc n) x (λ e. omega arith)))
+
+inside : (n x : ℕ) (xs : List ℕ) → 1 ≤ x → x ≤ n → counts n (x ∷ xs) ≡ suc (counts n xs)
+unfolding counts
+inside zero x xs l h = absurd (not-suc-le-zero (subst (λ (m : ℕ). 1 ≤ m) (sym none) l))
+  where
+    none : 0 ≡ x
+    none = omega arith
+inside (suc n) x xs l h =
+    elim (ℕ-discrete x (suc n)) [
+      | yes e ↦ omega (arith, beyond n x xs (omega arith), occurs-cons (suc n) x xs, subst (λ (m : ℕ). bit (eqb (suc n) m) ≡ 1) (sym e) (bit-same (suc n)))
+      | no d ↦ omega (arith, inside n x xs l (omega arith), occurs-cons (suc n) x xs, bit-no (eqb (suc n) x) (ne-eqb (suc n) x (λ e. d (sym e))))
+    ]
+
+-- every entry is of 1..n, so the counts are the length
+counts-all : (n : ℕ) (xs : List ℕ) → ((k : ℕ) → k < length xs → (1 ≤ getD xs k 0) × (getD xs k 0 ≤ n)) → counts n xs ≡ length xs
+counts-all n [] f = counts-none n
+counts-all n (x ∷ xs) f =
+    let h = f 0 (omega arith) in
+    inside n x xs (h .0) (h .1) ∙ ap suc (counts-all n xs (λ k l. f (suc k) (omega arith)))
+
+-- no entry twice, so at most n; one task missing, so fewer
+counts-most : (n : ℕ) (xs : List ℕ) → ((q : ℕ) → occurs (suc q) xs ≤ 1) → counts n xs ≤ n
+unfolding counts
+counts-most zero xs f = omega arith
+counts-most (suc n) xs f = omega (arith, counts-most n xs f, f n)
+
+counts-fewer : (n i : ℕ) (xs : List ℕ) → ((q : ℕ) → occurs (suc q) xs ≤ 1) → i < n → occurs (suc i) xs ≡ 0 → counts n xs < n
+unfolding counts
+counts-fewer zero i xs f h e = absurd (not-suc-le-zero h)
+counts-fewer (suc n) i xs f h e =
+    elim (ℕ-discrete i n) [
+      | yes s ↦ omega (arith, counts-most n xs f, subst (λ (m : ℕ). occurs (suc m) xs ≡ 0) s e)
+      | no d ↦ omega (arith, counts-fewer n i xs f (omega arith) e, f n)
+    ]
+
+module _ (t : Tables) (f : Facts t) (j : ℕ) (l : isLive (nthSlot t j) ≡ true) where
+  -- a queue's entries are tasks of the N
+  pub entry-within : (k : ℕ) → k < length (nthSlot t j .queue) → (1 ≤ getD (nthSlot t j .queue) k 0) × (getD (nthSlot t j .queue) k 0 ≤ length (t .tasks))
+  entry-within k h = go (getD (nthSlot t j .queue) k 0) (occurs-at (nthSlot t j .queue) k h)
+    where
+      go : (q : ℕ) → 1 ≤ occurs q (nthSlot t j .queue) → (1 ≤ q) × (q ≤ length (t .tasks))
+      go zero o = absurd (omega (arith, f .slots j .whenLive l .entries))
+      go (suc i) o =
+          (omega arith, waits-within t i (and-both _ _ (waits-there (nthTask t) (nthSlot t) (below t f) (f .linked) i j l o) .0))
+
+  all-once : (q : ℕ) → occurs (suc q) (nthSlot t j .queue) ≤ 1
+  all-once q = once (nthTask t) (nthSlot t) (below t f) (f .linked) q j l
+
+  pub queue-few : length (nthSlot t j .queue) ≤ length (t .tasks)
+  queue-few = omega (arith, counts-all (length (t .tasks)) (nthSlot t j .queue) entry-within, counts-most (length (t .tasks)) (nthSlot t j .queue) all-once)
+
+  pub queue-room : (i : ℕ) → i < length (t .tasks) → waits (nthTask t i) ≡ false → length (nthSlot t j .queue) < length (t .tasks)
+  queue-room i h w =
+      omega (
+        arith,
+        counts-all (length (t .tasks)) (nthSlot t j .queue) entry-within,
+        counts-fewer (length (t .tasks)) i (nthSlot t j .queue) all-once h (nowhere (nthTask t) (nthSlot t) (below t f) (f .linked) i j w l),
+      )
