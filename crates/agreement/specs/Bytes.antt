@@ -11,7 +11,7 @@ use Rattle.rules.specs.Numbers.{maxTasks, maxSlots, within}
 use Rattle.rules.specs.Machine.{Slot}
 use Rattle.rules.specs.Agreement.{agrees}
 use Rattle.tables.specs.Layout.{slotPlace, isLaid, modelOf}
-use Rattle.lookup.specs.Fits.{Sized}
+use Rattle.tables.specs.Sizes.{Sized}
 use Rattle.agreement.specs.declared.Head.{Head}
 
 -- what the tests of tasks and slots ask of lent bytes: what reading asks, and queues within their 32 places

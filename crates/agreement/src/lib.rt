@@ -9,7 +9,7 @@ ghost use Rattle.laws.specs.Choose.{bit};
 ghost use Rattle.words.specs.Words.{wordAt};
 ghost use Rattle.rules.specs.Agreement.{occurs, isWaiter};
 ghost use Rattle.tables.specs.Layout.{tablesLength, slotPlace, modelOf};
-ghost use Rattle.lookup.specs.Fits.{Sized};
+ghost use Rattle.tables.specs.Sizes.{Sized};
 ghost use Rattle.agreement.specs.Tests.{waitingFine, isEnding, readyFine, taskFine, entriesWait, isOrdered, countFine, queueFine, binaryFine, otherFine, classFine, liveFine, slotFine, tasksFine, slotsFine};
 ghost use Rattle.agreement.specs.Bytes.{Bounded, countsFit, agreesBytes, headAt, queueAt, slotWith};
 

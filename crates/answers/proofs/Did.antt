@@ -10,7 +10,7 @@ use Rattle.rules.specs.Machine.{Tables}
 use Rattle.rules.specs.Agreement.{Agrees}
 use Rattle.rules.specs.Calls.{Outcome, answered, refused, unless}
 use Rattle.tables.specs.Layout.{laid, modelOf}
-use Rattle.lookup.specs.Fits.{Sized}
+use Rattle.tables.specs.Sizes.{Sized}
 use Rattle.answers.specs.Steps.{Agreeing, Did}
 use Rattle.answers.proofs.Laws.{model, sized}
 

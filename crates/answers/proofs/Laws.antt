@@ -19,7 +19,7 @@ use Rattle.rules.proofs.Invariants.Room as room
 use Rattle.tables.specs.Layout.{Holds, laid, modelOf, tablesLength}
 use Rattle.tables.proofs.LawsRead.{length-laid, laid-tasks, laid-slots, modelOf-laid}
 use Rattle.tables.proofs.LawsHolds.{holds-bytes}
-use Rattle.lookup.specs.Fits.{Sized}
+use Rattle.tables.specs.Sizes.{Sized}
 
 -- N and S of agreeing tables are within the places there are
 sizes-few : (t : Tables) → sizesFit t ≡ true → (length (t .tasks) ≤ 32) × (length (t .slots) ≤ 64)

@@ -26,7 +26,7 @@ use Rattle.semaphore.specs.Record.{Stands}
 use Rattle.semaphore.proofs.Steps.{length-queue}
 use Rattle.tables.specs.Layout.{laid, modelOf, recordAt}
 use Rattle.tables.proofs.LawsRead.{slotAt-laid, padded-laid}
-use Rattle.lookup.specs.Fits.{Sized}
+use Rattle.tables.specs.Sizes.{Sized}
 use Rattle.lookup.proofs.Laws.{named}
 use Rattle.answers.specs.Steps.{Agreeing, Did}
 use Rattle.answers.proofs.Laws.{tasks-few, slots-few, holds, sized}

@@ -3,7 +3,7 @@ use rules::Answer;
 ghost use mathlib.Core.Path.{_≡_};
 ghost use Rattle.rules.specs.Calls.{answered};
 ghost use Rattle.tables.specs.Layout.{modelOf};
-ghost use Rattle.lookup.specs.Fits.{Sized};
+ghost use Rattle.tables.specs.Sizes.{Sized};
 
 pub fn answer(m: &[u8], status: u32, value: u32) -> Answer
     requires { ⌜ Sized (now m) ⌝ }

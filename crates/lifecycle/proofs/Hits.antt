@@ -15,7 +15,7 @@ use Rattle.tables.specs.Layout.{modelOf, slotPlace}
 use Rattle.lookup.proofs.Model.{length-slots}
 use Rattle.lookup.proofs.Answers.{slot-generation}
 use Rattle.lookup.proofs.Searches.{SearchesBy, isOpen, isNamed, searches-named}
-use Rattle.lookup.specs.Fits.{Sized}
+use Rattle.tables.specs.Sizes.{Sized}
 
 -- n is the number of a slot of these that the test holds of, where k slots stand before them
 pub record Hit (test : Slot → Bool) (ss : List Slot) (k n : ℕ) : Type 0 where

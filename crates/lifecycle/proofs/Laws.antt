@@ -18,7 +18,7 @@ use Rattle.semaphore.specs.declared.Semaphore.{Semaphore}
 use Rattle.semaphore.specs.Record.{slotFrom}
 use Rattle.tables.specs.Layout.{modelOf, recordAt}
 use Rattle.lookup.proofs.Model.{length-tasks, length-slots, slot-read}
-use Rattle.lookup.specs.Fits.{Sized}
+use Rattle.tables.specs.Sizes.{Sized}
 use Rattle.lookup.proofs.Laws.{task-only-then, Named, named}
 
 -- ---- one test of a chain: it holds, or the chain goes on

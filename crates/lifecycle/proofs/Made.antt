@@ -20,7 +20,7 @@ use Rattle.rules.proofs.Invariants.Refusals.{must, mustnt, task-only}
 use Rattle.semaphore.specs.declared.Semaphore.{Semaphore}
 use Rattle.semaphore.specs.Record.{Stands}
 use Rattle.tables.specs.Layout.{laid, modelOf}
-use Rattle.lookup.specs.Fits.{Sized}
+use Rattle.tables.specs.Sizes.{Sized}
 use Rattle.lookup.proofs.Searches.{isOpen, searches-open}
 use Rattle.answers.proofs.Did.{unless-done}
 use Rattle.answers.proofs.Reading.{Reads, told, unless-is, reads-after}

@@ -4,7 +4,7 @@ ghost use mathlib.Core.Path.{_≡_};
 ghost use Rattle.rules.specs.Machine.{Tables};
 ghost use Rattle.rules.specs.Agreement.{Agrees};
 ghost use Rattle.tables.specs.Layout.{laid, modelOf};
-ghost use Rattle.lookup.specs.Fits.{Sized};
+ghost use Rattle.tables.specs.Sizes.{Sized};
 ghost use Rattle.answers.specs.Steps.{Agreeing, Did};
 use semaphore::Semaphore;
 ghost use lib.Dec.{leb, eqb};

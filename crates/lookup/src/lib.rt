@@ -12,7 +12,7 @@ ghost use Rattle.rules.specs.Semaphore.{ahead, placeOf};
 ghost use Rattle.rules.specs.Calls.{taskOnly, anyCaller, callerRefusal, openSlot, firstNamed};
 ghost use Rattle.semaphore.specs.Record.{slotFrom};
 ghost use Rattle.tables.specs.Layout.{modelOf};
-ghost use Rattle.lookup.specs.Fits.{Sized};
+ghost use Rattle.tables.specs.Sizes.{Sized};
 
 // A number above every priority.
 const ABOVE_ALL: u32 = 256;
