@@ -63,7 +63,8 @@ module _ (l : List Task) (k best p : ℕ) (s : Scanned l k best p) where
   better : waits (at l k) ≡ false → at l k .priority < p → Scanned l (suc k) (suc k) (at l k .priority)
   better r h = record {
     origin = chosen (record { low = omega arith; high = omega arith; ready = r; priority = refl; inRange = omega (arith, bound (s .origin)) });
-    least = λ i b w. ⊎-elim (λ (m : i < k). let e : p ≤ at l i .priority = s .least i m w in omega arith) (λ (m : i ≡ k). omega (arith, ap (λ j. at l j .priority) m)) (below-suc i k b);
+    least = λ i b w. ⊎-elim (λ (m : i < k). let e : p ≤ at l i .priority = s .least i m w in omega arith)
+        (λ (m : i ≡ k). omega (arith, ap (λ j. at l j .priority) m)) (below-suc i k b);
     lowest = λ i b w e. ⊎-elim (λ (m : i < k). let f : p ≤ at l i .priority = s .least i m w in omega arith) (λ (m : i ≡ k). omega arith) (below-suc i k b);
   }
 
@@ -71,7 +72,8 @@ module _ (l : List Task) (k best p : ℕ) (s : Scanned l k best p) where
   noBetter : (waits (at l k) ≡ false → p ≤ at l k .priority) → Scanned l (suc k) best p
   noBetter h = record {
     origin = further (s .origin);
-    least = λ i b w. ⊎-elim (λ (m : i < k). s .least i m w) (λ (m : i ≡ k). subst (λ j. p ≤ at l j .priority) (sym m) (h (subst (λ j. waits (at l j) ≡ false) m w))) (below-suc i k b);
+    least = λ i b w. ⊎-elim (λ (m : i < k). s .least i m w)
+        (λ (m : i ≡ k). subst (λ j. p ≤ at l j .priority) (sym m) (h (subst (λ j. waits (at l j) ≡ false) m w))) (below-suc i k b);
     lowest = λ i b w e. ⊎-elim (λ (m : i < k). s .lowest i m w e) (λ (m : i ≡ k). omega (arith, at-most (s .origin))) (below-suc i k b);
   }
 
@@ -105,7 +107,8 @@ scan l [] k best p e h s = (p, subst (λ j. Scanned l j best p) here s)
     here : k ≡ length l
     here = omega (arith, length-drop k l, ap length e)
 scan l (v ∷ vs) k best p e h s =
-    subst (λ w. ScannedAll l (mostUrgent vs (suc (suc k)) (choose (isnt (waits w) and ltb (w .priority) p) (suc k) best) (choose (isnt (waits w) and ltb (w .priority) p) (w .priority) p)))
+    subst (λ w. ScannedAll l (mostUrgent vs (suc (suc k)) (choose (isnt (waits w) and ltb (w .priority) p) (suc k) best)
+    (choose (isnt (waits w) and ltb (w .priority) p) (w .priority) p)))
     head (scan l vs (suc k) _ _ tail inside (one-more l k best p s))
   where
     inside : k < length l
@@ -159,5 +162,6 @@ pub nobody-ready : (t : Tables) → agrees t ≡ true → next t ≡ 0 → (r : 
 nobody-ready t a e r l h = go (next-is t)
   where
     go : NextIs t (next t) → waits (taskOf t r) ≡ true
-    go (nobody z f) = ⊎-elim (λ (w : waits (taskOf t r) ≡ true). w) (λ (p : maxPriority < taskOf t r .priority). absurd (omega (arith, within-range t a r l h))) (f r l h)
+    go (nobody z f) =
+        ⊎-elim (λ (w : waits (taskOf t r) ≡ true). w) (λ (p : maxPriority < taskOf t r .priority). absurd (omega (arith, within-range t a r l h))) (f r l h)
     go (somebody m) = absurd (omega arith)

@@ -13,7 +13,8 @@ use Rattle.rules.specs.declared.Call.the-variants.{Start, Create, Ident,
 use Rattle.rules.specs.declared.Wait.{Wait}
 use Rattle.rules.specs.Machine.{Slot, Tables}
 use Rattle.rules.specs.Semaphore.{Given, giveStep, passStep}
-use Rattle.rules.specs.Calls.{Outcome, answered, refused, unless, startRefusal, start, createRefusal, create, ident, deleteRefusal, delete, obtainRefusal, obtain, releaseRefusal, release, flushRefusal, flush, tick, perform}
+use Rattle.rules.specs.Calls.{Outcome, answered, refused, unless, startRefusal, start, createRefusal, create, ident, deleteRefusal}
+use Rattle.rules.specs.Calls.{delete, obtainRefusal, obtain, releaseRefusal, release, flushRefusal, flush, tick, perform}
 use Rattle.rules.specs.Promises.{valued, given, isIn}
 
 pub data Performed (t : Tables) (call : Call) : Outcome → Type 0 where
@@ -25,11 +26,13 @@ pub data Performed (t : Tables) (call : Call) : Outcome → Type 0 where
 choose-in : (list : List ℕ) (test : Bool) (a b : ℕ) → isIn a list ≡ true → isIn b list ≡ true → isIn (choose test a b) list ≡ true
 choose-in list test a b f g = choose-cases (λ n. isIn n list ≡ true) test a b (λ e. f) (λ e. g)
 
-given-in : (list : List ℕ) (test : Bool) (a b : Given) → isIn (a .status) list ≡ true → isIn (b .status) list ≡ true → isIn (choose test a b .status) list ≡ true
+given-in : (list : List ℕ) (test : Bool) (a b : Given) → isIn (a .status) list ≡ true → isIn (b .status) list ≡ true
+    → isIn (choose test a b .status) list ≡ true
 given-in list test a b f g = choose-cases (λ n. isIn (n .status) list ≡ true) test a b (λ e. f) (λ e. g)
 
 -- done, unless the checks before refuse
-unless-performed : (t : Tables) (call : Call) (refusal : ℕ) (o : Outcome) → isIn refusal (given call) ≡ true → Performed t call o → Performed t call (unless refusal t o)
+unless-performed : (t : Tables) (call : Call) (refusal : ℕ) (o : Outcome) → isIn refusal (given call) ≡ true → Performed t call o
+    → Performed t call (unless refusal t o)
 unless-performed t call refusal o i p =
     choose-cases (Performed t call) (eqb refusal 0) o (refused t refusal) (λ e. p) (λ e. refusing refusal (eqb-false refusal 0 e) i)
 

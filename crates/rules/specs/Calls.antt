@@ -12,8 +12,11 @@ use Rattle.rules.specs.declared.Wait.{Wait}
 use Rattle.rules.specs.declared.Call.{Call}
 use Rattle.rules.specs.declared.Call.the-variants.{Start, Create, Ident, Delete, Obtain, Release, Flush, Tick}
 use Rattle.rules.specs.declared.Answer.{Answer}
-use Rattle.rules.specs.Numbers.{maxTasks, maxSlots, maxPriority, maxGeneration, within, allowed, isBinary, isSimple, successful, invalidName, invalidId, tooMany, timeout, objectWasDeleted, invalidNumber, notDefined, resourceInUse, unsatisfied, incorrectState, calledFromIsr, invalidPriority, internalError, waiting}
-use Rattle.rules.specs.Machine.{Slot, Tables, freeSlot, withTasks, withSlots, taskOf, slotOf, putTask, putSlot, waits, isLive, urgency, idOf, names, slotNamed, next}
+use Rattle.rules.specs.Numbers.{maxTasks, maxSlots, maxPriority, maxGeneration, within, allowed, isBinary, isSimple, successful}
+use Rattle.rules.specs.Numbers.{invalidName, invalidId, tooMany, timeout, objectWasDeleted, invalidNumber, notDefined, resourceInUse}
+use Rattle.rules.specs.Numbers.{unsatisfied, incorrectState, calledFromIsr, invalidPriority, internalError, waiting}
+use Rattle.rules.specs.Machine.{Slot, Tables, freeSlot, withTasks, withSlots, taskOf, slotOf, putTask, putSlot, waits, isLive}
+use Rattle.rules.specs.Machine.{urgency, idOf, names, slotNamed, next}
 use Rattle.rules.specs.Agreement.{agrees}
 use Rattle.rules.specs.Semaphore.{ticksOf, placeOf, requeued, takeStep, giveStep, flushStep}
 
@@ -98,7 +101,16 @@ createRefusal t caller name count attributes =
 unfoldable pub newSemaphore : ℕ → ℕ → ℕ → ℕ → ℕ → Slot
 newSemaphore generation caller name count attributes =
     let owned = isBinary attributes and eqb count 0 in
-    record { generation = generation + 1; live = 1; name = name; attributes = attributes; count = count; owner = choose owned caller 0; nest = choose owned 1 0; queue = [] }
+    record {
+      generation = generation + 1;
+      live = 1;
+      name = name;
+      attributes = attributes;
+      count = count;
+      owner = choose owned caller 0;
+      nest = choose owned 1 0;
+      queue = [];
+    }
 
 unfoldable pub create : Tables → ℕ → ℕ → ℕ → ℕ → Outcome
 create t caller name count attributes =

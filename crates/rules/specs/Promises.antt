@@ -9,7 +9,9 @@ use lib.ListN.{length}
 use Rattle.laws.specs.Choose.{choose, _or_}
 use Rattle.rules.specs.declared.Call.{Call}
 use Rattle.rules.specs.declared.Call.the-variants.{Start, Create, Ident, Delete, Obtain, Release, Flush, Tick}
-use Rattle.rules.specs.Numbers.{maxPriority, successful, invalidName, invalidId, tooMany, invalidNumber, notDefined, resourceInUse, unsatisfied, incorrectState, calledFromIsr, invalidPriority, notOwnerOfResource, internalError, waiting}
+use Rattle.rules.specs.Numbers.{maxPriority, successful, invalidName, invalidId, tooMany, invalidNumber, notDefined, resourceInUse}
+use Rattle.rules.specs.Numbers.{unsatisfied, incorrectState, calledFromIsr, invalidPriority, notOwnerOfResource, internalError}
+use Rattle.rules.specs.Numbers.{waiting}
 use Rattle.rules.specs.Machine.{Tables, taskOf, waits, next}
 use Rattle.rules.specs.Calls.{Outcome}
 use Rattle.rules.specs.Runs.{Request, stepOf}

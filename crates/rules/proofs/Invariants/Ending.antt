@@ -26,20 +26,24 @@ emptied t f j s a l ends fits generation empty =
 pub delete-kept : (t : Tables) (caller id : ℕ) → Facts t → Facts (delete t caller id .tables)
 unfolding delete deleteRefusal
 delete-kept t caller id f =
-    unless-kept (deleteRefusal t caller id) t (answered 0 0 (wakeAll (putSlot t (slotNamed t id) (freeSlot (slotOf t (slotNamed t id) .generation))) (slotOf t (slotNamed t id) .queue) 7)) f
+    unless-kept (deleteRefusal t caller id) t
+    (answered 0 0 (wakeAll (putSlot t (slotNamed t id) (freeSlot (slotOf t (slotNamed t id) .generation))) (slotOf t (slotNamed t id) .queue) 7)) f
     (λ e.
     let who = task-only t caller _ e in
     let named = must (names t id) _ 4 (omega arith) (who .1) in
     let s = found t (f .sizes) id (named .0) in
     subst (λ (n : ℕ). Facts (wakeAll (putSlot t n (freeSlot (slotOf t n .generation))) (slotOf t n .queue) 7)) (sym (s .number))
-    (emptied t f (s .place) (freeSlot (nthSlot t (s .place) .generation)) 7 (s .live) deleted-ends (free-fits _ _ _ (f .slots (s .place) .generation)) refl refl))
+    (emptied t f (s .place) (freeSlot (nthSlot t (s .place) .generation)) 7 (s .live) deleted-ends
+    (free-fits _ _ _ (f .slots (s .place) .generation)) refl refl))
 
 pub flush-kept : (t : Tables) (caller id : ℕ) → Facts t → Facts (flush t caller id .tables)
 unfolding flush flushRefusal flushStep
 flush-kept t caller id f =
-    unless-kept (flushRefusal t caller id) t (answered 0 0 (wakeAll (putSlot t (slotNamed t id) (flushStep (slotOf t (slotNamed t id)))) (slotOf t (slotNamed t id) .queue) 13)) f
+    unless-kept (flushRefusal t caller id) t
+    (answered 0 0 (wakeAll (putSlot t (slotNamed t id) (flushStep (slotOf t (slotNamed t id)))) (slotOf t (slotNamed t id) .queue) 13)) f
     (λ e.
     let named = must (names t id) 0 4 (omega arith) (any-caller t caller _ e) in
     let s = found t (f .sizes) id (named .0) in
     subst (λ (n : ℕ). Facts (wakeAll (putSlot t n (flushStep (slotOf t n))) (slotOf t n .queue) 13)) (sym (s .number))
-    (emptied t f (s .place) (flushStep (nthSlot t (s .place))) 13 (s .live) flushed-ends (flush-fits _ _ (nthSlot t (s .place)) (f .slots (s .place)) (s .live)) refl refl))
+    (emptied t f (s .place) (flushStep (nthSlot t (s .place))) 13 (s .live) flushed-ends
+    (flush-fits _ _ (nthSlot t (s .place)) (f .slots (s .place)) (s .live)) refl refl))

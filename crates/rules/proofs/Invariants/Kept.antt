@@ -49,7 +49,8 @@ perform-kept t Tick priorities e f = tick-kept t f
 pub kept : (t : Tables) (call : Call) (priorities : List ℕ) → callFits call ≡ true → Agrees t → Agrees (step t call priorities .tables)
 unfolding step
 kept t call priorities e a =
-    choose-cases (λ (o : Outcome). Agrees (o .tables)) (agrees t) _ _ (λ y. facts-agrees (perform t call priorities .tables) (perform-kept t call priorities e (agrees-facts t a))) (λ n. a)
+    choose-cases (λ (o : Outcome). Agrees (o .tables)) (agrees t) _ _
+    (λ y. facts-agrees (perform t call priorities .tables) (perform-kept t call priorities e (agrees-facts t a))) (λ n. a)
 
 pub run-kept : (t : Tables) (requests : List Request) → callsFit requests ≡ true → Agrees t → Agrees (after t requests)
 unfolding after callsFit

@@ -46,7 +46,8 @@ module _ (task : ℕ → Task) (slot : ℕ → Slot) (below : (j : ℕ) → isLi
   once i j l = rw (linked .counted i j l) (bit-most _)
 
   -- a task stands in one queue only
-  pub elsewhere : (i j k : ℕ) → isLive (slot j) ≡ true → isLive (slot k) ≡ true → j ≢ k → 1 ≤ occurs (suc i) (slot j .queue) → occurs (suc i) (slot k .queue) ≡ 0
+  pub elsewhere : (i j k : ℕ) → isLive (slot j) ≡ true → isLive (slot k) ≡ true → j ≢ k → 1 ≤ occurs (suc i) (slot j .queue)
+      → occurs (suc i) (slot k .queue) ≡ 0
   elsewhere i j k l m n h =
       linked .counted i k m
       ∙ bit-no _ (not-on (task i) (idOf (suc k) (slot k))
@@ -57,7 +58,8 @@ module _ (task : ℕ → Task) (slot : ℕ → Slot) (below : (j : ℕ) → isLi
   nowhere i j w l = linked .counted i j l ∙ bit-no _ (not-waiting (task i) (idOf (suc j) (slot j)) w)
 
   -- an identifier's slot stays where it is
-  pub moved : (slot′ : ℕ → Slot) (id : ℕ) → ((k : ℕ) → isLive (slot k) ≡ true → (isLive (slot′ k) ≡ true) × (slot′ k .generation ≡ slot k .generation)) → Names slot id → Names slot′ id
+  pub moved : (slot′ : ℕ → Slot) (id : ℕ)
+      → ((k : ℕ) → isLive (slot k) ≡ true → (isLive (slot′ k) ≡ true) × (slot′ k .generation ≡ slot k .generation)) → Names slot id → Names slot′ id
   moved slot′ id f n =
       let g = f (n .place) (n .live) in
       record { place = n .place; live = g .0; is = n .is ∙ ap (λ (g : ℕ). g * 65536 + suc (n .place)) (sym (g .1)) }
@@ -89,7 +91,8 @@ module _ (task : ℕ → Task) (slot : ℕ → Slot) (below : (j : ℕ) → isLi
             (λ (e : W i ≡ false).
             let v = others i e in
             let n = linked .named i (subst (λ (a : ℕ). eqb a 100 ≡ true) (v .answer) w) in
-            let on : waitsOn (task i) (idOf (suc (n .place)) (slot (n .place))) ≡ true = both-and (subst (λ (a : ℕ). eqb a 100 ≡ true) (v .answer) w) (eq-eqb _ _ (n .is)) in
+            let on : waitsOn (task i) (idOf (suc (n .place)) (slot (n .place))) ≡ true = both-and
+            (subst (λ (a : ℕ). eqb a 100 ≡ true) (v .answer) w) (eq-eqb _ _ (n .is)) in
             let there : 1 ≤ occurs (suc i) (slot (n .place) .queue) = omega (arith, linked .counted i (n .place) (n .live), bit-yes _ on) in
             let l = stays i (n .place) e (n .live) there in
             record { place = n .place; live = l; is = v .awaited ∙ n .is ∙ ap (λ (g : ℕ). g * 65536 + suc (n .place)) (sym (shrunk (n .place) l .generation)) })
@@ -151,7 +154,9 @@ module _ (task : ℕ → Task) (slot : ℕ → Slot) (below : (j : ℕ) → isLi
           (tested (waitsOn (task i) (idOf (suc j) s)))
 
       counted : (i k : ℕ) → Counted i (task i) k (slot′ k)
-      counted i k = updated-cases (λ k z. Counted i (task i) k z) slots k (λ m. occurs-empty (suc i) (s .queue) empty ∙ sym (bit-no _ (nobody i))) (λ n. linked .counted i k)
+      counted i k =
+          updated-cases (λ k z. Counted i (task i) k z) slots k (λ m. occurs-empty (suc i) (s .queue) empty ∙ sym (bit-no _ (nobody i)))
+          (λ n. linked .counted i k)
 
       named : (i : ℕ) → waits (task i) ≡ true → Names slot′ (task i .awaited)
       named i w =

@@ -20,7 +20,8 @@ use Rattle.rules.specs.Semaphore.{ahead, insertAt}
 
 module _ {A : Type 0} where
   -- a replaced place holds the new value, the others what they held
-  pub set-cases : (P : ℕ → A → Type 0) (l : List A) (i : ℕ) (a d : A) (j : ℕ) → i < length l → (j ≡ i → P j a) → (j ≢ i → P j (getD l j d)) → P j (getD (set l i a) j d)
+  pub set-cases : (P : ℕ → A → Type 0) (l : List A) (i : ℕ) (a d : A) (j : ℕ) → i < length l → (j ≡ i → P j a) → (j ≢ i → P j (getD l j d))
+      → P j (getD (set l i a) j d)
   set-cases P l i a d j h same other =
       elim (ℕ-discrete j i) [
         | yes e ↦ subst (λ (k : ℕ). P k (getD (set l i a) k d)) (sym e) (rw getD-set-same (rw e at (same e)))
@@ -142,7 +143,8 @@ module _ (u : ℕ → ℕ) where
   ascending-at low (x ∷ y ∷ ys) a zero h = a .1 .0
   ascending-at low (x ∷ y ∷ ys) a (suc k) h = ascending-at (u x) (y ∷ ys) (a .1) k (le-of-suc-le-suc h)
 
-  pub ascending-of : (low : ℕ) (xs : List ℕ) → (1 ≤ length xs → low ≤ u (getD xs 0 0)) → ((k : ℕ) → k < pred (length xs) → u (getD xs k 0) ≤ u (getD xs (suc k) 0)) → Ascending u low xs
+  pub ascending-of : (low : ℕ) (xs : List ℕ) → (1 ≤ length xs → low ≤ u (getD xs 0 0))
+      → ((k : ℕ) → k < pred (length xs) → u (getD xs k 0) ≤ u (getD xs (suc k) 0)) → Ascending u low xs
   ascending-of low [] first f = tt
   ascending-of low (x ∷ []) first f = (first (omega arith), tt)
   ascending-of low (x ∷ y ∷ ys) first f = (first (omega arith), ascending-of (u x) (y ∷ ys) (λ h. f 0 (omega arith)) (λ k h. f (suc k) (omega arith)))

@@ -46,7 +46,8 @@ module _ (slots : ℕ) (priorities : List ℕ) where
   unfolding started
   slots-new = length-replicate slots (freeSlot 0)
 
-  pub started-facts : (within 1 maxTasks (length priorities) and within 1 maxSlots slots) ≡ true → ((i : ℕ) → i < length priorities → within 1 maxPriority (getD priorities i 0) ≡ true) → Facts (started slots priorities)
+  pub started-facts : (within 1 maxTasks (length priorities) and within 1 maxSlots slots) ≡ true
+      → ((i : ℕ) → i < length priorities → within 1 maxPriority (getD priorities i 0) ≡ true) → Facts (started slots priorities)
   unfolding sizesFit
   started-facts sizes urgent =
       record {
@@ -86,11 +87,19 @@ unfolding firstFree
 first-free [] m = λ h. absurd (omega arith)
 first-free (s ∷ ss) m =
     choose-cases (λ (n : ℕ). 1 ≤ n → Open (s ∷ ss) m n) (isnt (isLive s) and ltb (s .generation) maxGeneration) (suc m) (firstFree ss (suc (suc m)))
-    (λ e h. record { place = 0; within = omega arith; number = omega arith; free = isnt-false _ (and-both _ _ e .0); generation = ltb-true _ _ (and-both _ _ e .1) })
+    (λ e h. record {
+      place = 0;
+      within = omega arith;
+      number = omega arith;
+      free = isnt-false _ (and-both _ _ e .0);
+      generation = ltb-true _ _
+          (and-both _ _ e .1);
+    })
     (λ e h. let o = first-free ss (suc m) h in later o)
   where
     later : {n : ℕ} → Open ss (suc m) n → Open (s ∷ ss) m n
-    later o = record { place = suc (o .place); within = omega (arith, o .within); number = omega (arith, o .number); free = o .free; generation = o .generation }
+    later o =
+        record { place = suc (o .place); within = omega (arith, o .within); number = omega (arith, o .number); free = o .free; generation = o .generation }
 
 new-queue : (g caller name count attributes : ℕ) → length (newSemaphore g caller name count attributes .queue) ≡ 0
 unfolding newSemaphore
@@ -117,9 +126,11 @@ create-checked t caller name count attributes e =
     record { who = who .0; named = omega arith; right = right .0; small = limited (small .0); room = first-free (t .slots) 0 (omega arith) }
   where
     limited : ((isBinary attributes or isSimple attributes) and leb 2 count) ≡ false → (isBinary attributes or isSimple attributes) ≡ true → count ≤ 1
-    limited e b = ⊎-elim (λ (m : leb 2 count ≡ true). never (both-and b m) e) (λ (m : leb 2 count ≡ false). omega (arith, leb-false 2 count m)) (tested (leb 2 count))
+    limited e b =
+        ⊎-elim (λ (m : leb 2 count ≡ true). never (both-and b m) e) (λ (m : leb 2 count ≡ false). omega (arith, leb-false 2 count m)) (tested (leb 2 count))
 
-pub create-kept : (t : Tables) (caller name count attributes : ℕ) → name ≤ maxNumber → count ≤ maxNumber → Facts t → Facts (create t caller name count attributes .tables)
+pub create-kept : (t : Tables) (caller name count attributes : ℕ) → name ≤ maxNumber → count ≤ maxNumber → Facts t
+    → Facts (create t caller name count attributes .tables)
 unfolding create
 create-kept t caller name count attributes name-fits count-fits f =
     unless-kept (createRefusal t caller name count attributes) t (answered 0 _ (putSlot t (openSlot t) (made (openSlot t)))) f

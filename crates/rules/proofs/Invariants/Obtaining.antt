@@ -33,7 +33,8 @@ blocked-fits v id wait i n = record { answer = or-first _ _ refl; awaited = i; t
 -- what a step of the semaphore leads to
 abbrev outcome : Tables → ℕ → ℕ → ℕ → Wait → Taken → Outcome
 outcome t n caller id wait taken =
-    choose (eqb (taken .status) 100) (answered 100 0 (putTask (putSlot t n (taken .slot)) caller (blocked (taskOf t caller) id wait))) (answered 0 0 (putSlot t n (taken .slot)))
+    choose (eqb (taken .status) 100) (answered 100 0 (putTask (putSlot t n (taken .slot)) caller (blocked (taskOf t caller) id wait)))
+    (answered 0 0 (putSlot t n (taken .slot)))
 
 module _ (t : Tables) (f : Facts t) (c j id : ℕ) (wait : Wait) (who : Caller t (suc c)) (l : isLive (nthSlot t j) ≡ true) (is : id ≡ idOf (suc j) (nthSlot t j))
     (i : id ≤ maxNumber) (n : ticksOf wait ≤ maxNumber) where
@@ -58,7 +59,8 @@ module _ (t : Tables) (f : Facts t) (c j id : ℕ) (wait : Wait) (who : Caller t
       (λ none. choose-cases Keeps (isBinary (nthSlot t j .attributes) and ownedBy (nthSlot t j) (suc c)) _ _
       (λ own. choose-cases Keeps (eqb (nthSlot t j .nest) maxNumber) _ _ (λ e. refused _)
       (λ e. got _ (replaced t f j _ l
-      (nest-fits N u s fits l (suc c) (who .first) (who .last) (and-both _ _ own .0) (eqb-true _ _ (and-both _ _ (and-both _ _ own .1) .0)) (eqb-false _ _ e)) refl refl l)))
+      (nest-fits N u s fits l (suc c) (who .first) (who .last) (and-both _ _ own .0) (eqb-true _ _ (and-both _ _ (and-both _ _ own .1) .0))
+      (eqb-false _ _ e)) refl refl l)))
       (λ other. choose-cases Keeps (polls wait) _ _ (λ e. refused _)
       (λ e. waits-now _
       (waited t f c j (blocked (nthTask t c) id wait) _ (who .last) (who .ready) l refl is refl (blocked-fits (nthTask t c) id wait i n)
@@ -86,7 +88,8 @@ obtain-kept t caller id wait i n f =
     let named = must (names t id) (choose (eqb (taken (slotNamed t id) caller .status) 13) 13 0) 4 (omega arith) (who .1) in
     let granted = mustnt (eqb (taken (slotNamed t id) caller .status) 13) 13 0 (omega arith) (named .1) in
     let s = found t (f .sizes) id (named .0) in
-    subst (λ (m : ℕ). eqb (taken m caller .status) 13 ≡ false → Facts (outcome t m caller id wait (taken m caller) .tables)) (sym (s .number)) (at caller (who .0) (s .place) (s .live) (s .is)) (granted .0))
+    subst (λ (m : ℕ). eqb (taken m caller .status) 13 ≡ false → Facts (outcome t m caller id wait (taken m caller) .tables)) (sym (s .number))
+    (at caller (who .0) (s .place) (s .live) (s .is)) (granted .0))
   where
     taken : ℕ → ℕ → Taken
     taken m caller = takeStep (slotOf t m) caller (placeOf (urgency t) (slotOf t m) caller) wait

@@ -72,13 +72,16 @@ module _ (t : Tables) (f : Facts t) where
             (λ e. omega (arith, leb-true 1 (occurs (suc i) ws) e, parts (suc i), once (nthTask t) (nthSlot t) below (f .linked) i j l))
             (λ e. omega (arith, leb-false 1 (occurs (suc i) ws) e, parts (suc i)))
 
-        there : k ≢ j → isLive (nthSlot t k) ≡ true → (i : ℕ) → occurs (suc i) (nthSlot t k .queue) ≡ choose (leb 1 (occurs (suc i) ws)) 0 (occurs (suc i) (nthSlot t k .queue))
+        there : k ≢ j → isLive (nthSlot t k) ≡ true → (i : ℕ)
+            → occurs (suc i) (nthSlot t k .queue) ≡ choose (leb 1 (occurs (suc i) ws)) 0 (occurs (suc i) (nthSlot t k .queue))
         there n m i =
             choose-cases (λ (c : ℕ). occurs (suc i) (nthSlot t k .queue) ≡ c) (leb 1 (occurs (suc i) ws)) 0 (occurs (suc i) (nthSlot t k .queue))
-            (λ e. elsewhere (nthTask t) (nthSlot t) below (f .linked) i j k l m (λ z. n (sym z)) (omega (arith, leb-true 1 (occurs (suc i) ws) e, parts (suc i))))
+            (λ e. elsewhere (nthTask t) (nthSlot t) below (f .linked) i j k l m (λ z. n (sym z))
+            (omega (arith, leb-true 1 (occurs (suc i) ws) e, parts (suc i))))
             (λ e. refl)
 
-    remains : (i k : ℕ) → leb 1 (occurs (suc i) ws) ≡ false → isLive (nthSlot t k) ≡ true → 1 ≤ occurs (suc i) (nthSlot t k .queue) → isLive (nthSlot (putSlot t (suc j) s) k) ≡ true
+    remains : (i k : ℕ) → leb 1 (occurs (suc i) ws) ≡ false → isLive (nthSlot t k) ≡ true → 1 ≤ occurs (suc i) (nthSlot t k .queue)
+        → isLive (nthSlot (putSlot t (suc j) s) k) ≡ true
     remains i k e =
         updated-cases (λ k z. isLive (nthSlot t k) ≡ true → 1 ≤ occurs (suc i) (nthSlot t k .queue) → isLive z ≡ true) put k
         (λ m h. stays i (omega (arith, leb-false 1 (occurs (suc i) ws) e, parts (suc i))))
@@ -86,7 +89,8 @@ module _ (t : Tables) (f : Facts t) where
 
     linked-after : Linked (nthTask (wakeAll (putSlot t (suc j) s) ws a)) (nthSlot (putSlot t (suc j) s))
     linked-after =
-        ended (nthTask t) (nthSlot t) below (f .linked) (nthTask (wakeAll (putSlot t (suc j) s) ws a)) (nthSlot (putSlot t (suc j) s)) (λ i. leb 1 (occurs (suc i) ws))
+        ended (nthTask t) (nthSlot t) below (f .linked) (nthTask (wakeAll (putSlot t (suc j) s) ws a)) (nthSlot (putSlot t (suc j) s))
+        (λ i. leb 1 (occurs (suc i) ws))
         (λ i e. subst (λ (v : Task). waits v ≡ false) (sym (task-woken i e)) (ending-ready a ends))
         (λ i e. record { answer = ap (λ (v : Task). v .answer) (task-same i e); awaited = ap (λ (v : Task). v .awaited) (task-same i e) })
         shrunk remains
@@ -95,24 +99,30 @@ module _ (t : Tables) (f : Facts t) where
     roused =
         facts-step t (wakeAll (putSlot t (suc j) s) ws a) f (wakeAll-length ws (putSlot t (suc j) s) a)
         (ap length (wakeAll-slots ws (putSlot t (suc j) s) a) ∙ length-set (t .slots) j s)
-        (λ i. ap (λ (v : Task). v .priority) (task-after i) ∙ choose-cases (λ (v : Task). v .priority ≡ nthTask t i .priority) (leb 1 (occurs (suc i) ws)) _ _ (λ e. refl) (λ e. refl))
-        (λ i. subst TaskFits (sym (task-after i)) (choose-cases TaskFits (leb 1 (occurs (suc i) ws)) _ _ (λ e. readied-fits (nthTask t i) a ends) (λ e. f .tasks i)))
+        (λ i. ap (λ (v : Task). v .priority) (task-after i) ∙ choose-cases (λ (v : Task). v .priority ≡ nthTask t i .priority)
+        (leb 1 (occurs (suc i) ws)) _ _ (λ e. refl) (λ e. refl))
+        (λ i. subst TaskFits (sym (task-after i))
+        (choose-cases TaskFits (leb 1 (occurs (suc i) ws)) _ _ (λ e. readied-fits (nthTask t i) a ends) (λ e. f .tasks i)))
         (λ k. subst (λ (ss : List Slot). SlotFits (length (t .tasks)) (urgency t) (getD ss k (freeSlot 0))) (sym (wakeAll-slots ws (putSlot t (suc j) s) a))
         (set-all (SlotFits (length (t .tasks)) (urgency t)) (t .slots) j s (freeSlot 0) (f .slots) fits k))
-        (subst (λ (ss : List Slot). Linked (nthTask (wakeAll (putSlot t (suc j) s) ws a)) (λ k. getD ss k (freeSlot 0))) (sym (wakeAll-slots ws (putSlot t (suc j) s) a)) linked-after)
+        (subst (λ (ss : List Slot). Linked (nthTask (wakeAll (putSlot t (suc j) s) ws a)) (λ k. getD ss k (freeSlot 0)))
+        (sym (wakeAll-slots ws (putSlot t (suc j) s) a)) linked-after)
 
   -- slot j becomes s, with the queue as it was
-  pub replaced : (j : ℕ) (s : Slot) → isLive (nthSlot t j) ≡ true → SlotFits (length (t .tasks)) (urgency t) s → s .generation ≡ nthSlot t j .generation → s .queue ≡ nthSlot t j .queue → isLive s ≡ true → Facts (putSlot t (suc j) s)
+  pub replaced : (j : ℕ) (s : Slot) → isLive (nthSlot t j) ≡ true → SlotFits (length (t .tasks)) (urgency t) s
+      → s .generation ≡ nthSlot t j .generation → s .queue ≡ nthSlot t j .queue → isLive s ≡ true → Facts (putSlot t (suc j) s)
   unfolding wakeAll
   replaced j s l fits generation queue l′ =
       roused j s [] 0 l obtained-ends fits generation (λ q. omega (arith, occurs-none q, ap (occurs q) queue)) (λ i h. l′)
 
   -- a free slot comes to life as s
-  pub created : (j : ℕ) (s : Slot) → j < length (t .slots) → isLive (nthSlot t j) ≡ false → SlotFits (length (t .tasks)) (urgency t) s → length (s .queue) ≡ 0 → Facts (putSlot t (suc j) s)
+  pub created : (j : ℕ) (s : Slot) → j < length (t .slots) → isLive (nthSlot t j) ≡ false → SlotFits (length (t .tasks)) (urgency t) s
+      → length (s .queue) ≡ 0 → Facts (putSlot t (suc j) s)
   created j s h free fits empty =
       facts-step t (putSlot t (suc j) s) f refl (length-set (t .slots) j s) (λ i. refl) (f .tasks)
       (set-all (SlotFits (length (t .tasks)) (urgency t)) (t .slots) j s (freeSlot 0) (f .slots) fits)
-      (opened (nthTask t) (nthSlot t) below (f .linked) (nthSlot (putSlot t (suc j) s)) j s (set-updated (t .slots) j s (freeSlot 0) h) (omega (arith, few t (f .sizes))) free empty)
+      (opened (nthTask t) (nthSlot t) below (f .linked) (nthSlot (putSlot t (suc j) s)) j s (set-updated (t .slots) j s (freeSlot 0) h)
+      (omega (arith, few t (f .sizes))) free empty)
 
   -- task c, which did not wait, joins the queue of slot j, which becomes s
   pub waited : (c j : ℕ) (v : Task) (s : Slot) → c < length (t .tasks) → waits (nthTask t c) ≡ false → isLive (nthSlot t j) ≡ true

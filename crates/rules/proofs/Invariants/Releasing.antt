@@ -35,22 +35,28 @@ module _ (t : Tables) (f : Facts t) (j : ℕ) (l : isLive (nthSlot t j) ≡ true
   given-back s kept e = subst Facts (sym (if-yes _ _ refl)) kept
 
   -- the first in the queue is woken
-  handed-on : (q : ℕ) → q ≡ getD (nthSlot t j .queue) 0 0 → 1 ≤ length (nthSlot t j .queue) → Facts (after t (suc j) (record { status = 0; slot = handed (nthSlot t j) q; woken = q }))
+  handed-on : (q : ℕ) → q ≡ getD (nthSlot t j .queue) 0 0 → 1 ≤ length (nthSlot t j .queue)
+      → Facts (after t (suc j) (record { status = 0; slot = handed (nthSlot t j) q; woken = q }))
   unfolding wakeAll
   handed-on zero is h =
-      absurd (omega (arith, f .slots j .whenLive l .entries, subst (λ (q : ℕ). 1 ≤ occurs q (nthSlot t j .queue)) (sym is) (occurs-at (nthSlot t j .queue) 0 h)))
+      absurd
+      (omega (arith, f .slots j .whenLive l .entries, subst (λ (q : ℕ). 1 ≤ occurs q (nthSlot t j .queue)) (sym is) (occurs-at (nthSlot t j .queue) 0 h)))
   handed-on (suc i) is h =
       subst Facts (sym (if-no _ _ (ne-eqb (suc i) 0 (omega arith))))
       (roused t f j (handed (nthSlot t j) (suc i)) (suc i ∷ []) 0 l obtained-ends
-      (hand-fits (length (t .tasks)) (urgency t) (nthSlot t j) (f .slots j) l (suc i) is h (omega arith) (waits-within t i (and-both _ _ there .0)) (once (nthTask t) (nthSlot t) (below t f) (f .linked) i j l))
+      (hand-fits (length (t .tasks)) (urgency t) (nthSlot t j) (f .slots j) l (suc i) is h (omega arith) (waits-within t i (and-both _ _ there .0))
+      (once (nthTask t) (nthSlot t) (below t f) (f .linked) i j l))
       refl parts (λ k m. l))
     where
       there : waitsOn (nthTask t i) (idOf (suc j) (nthSlot t j)) ≡ true
-      there = waits-there (nthTask t) (nthSlot t) (below t f) (f .linked) i j l (subst (λ (q : ℕ). 1 ≤ occurs q (nthSlot t j .queue)) (sym is) (occurs-at (nthSlot t j .queue) 0 h))
+      there =
+          waits-there (nthTask t) (nthSlot t) (below t f) (f .linked) i j l
+          (subst (λ (q : ℕ). 1 ≤ occurs q (nthSlot t j .queue)) (sym is) (occurs-at (nthSlot t j .queue) 0 h))
 
       parts : (q : ℕ) → occurs q (nthSlot t j .queue) ≡ occurs q (suc i ∷ []) + occurs q (drop 1 (nthSlot t j .queue))
       parts q =
-          let first : occurs q (nthSlot t j .queue) ≡ bit (eqb q (suc i)) + occurs q (drop 1 (nthSlot t j .queue)) = rw is (occurs-first q (nthSlot t j .queue) h) in
+          let first : occurs q (nthSlot t j .queue) ≡ bit (eqb q (suc i)) + occurs q (drop 1 (nthSlot t j .queue)) = rw is
+          (occurs-first q (nthSlot t j .queue) h) in
           omega (arith, occurs-cons q (suc i) [], occurs-none q)
 
   pub give-kept : (caller : ℕ) → Keeps (giveStep (nthSlot t j) caller)
@@ -85,4 +91,5 @@ release-kept t caller id f =
     (λ e.
     let named = must (names t id) (giveStep (slotOf t (slotNamed t id)) caller .status) 4 (omega arith) (any-caller t caller _ e) in
     let s = found t (f .sizes) id (named .0) in
-    subst (λ (m : ℕ). giveStep (slotOf t m) caller .status ≡ 0 → Facts (after t m (giveStep (slotOf t m) caller))) (sym (s .number)) (give-kept t f (s .place) (s .live) caller) (named .1))
+    subst (λ (m : ℕ). giveStep (slotOf t m) caller .status ≡ 0 → Facts (after t m (giveStep (slotOf t m) caller))) (sym (s .number))
+    (give-kept t f (s .place) (s .live) caller) (named .1))

@@ -16,7 +16,8 @@ use Rattle.rules.specs.Machine.{Slot, isLive}
 use Rattle.rules.specs.Agreement.{occurs}
 use Rattle.rules.specs.Semaphore.{placeOf, insertAt, counted, ownedBy, handed, flushStep}
 use Rattle.rules.specs.Calls.{newSemaphore}
-use Rattle.rules.proofs.Invariants.Lists.{Ascending, ascending-insert, ascending-rest, bit-yes, bit-no, occurs-empty, occurs-none, occurs-insert, occurs-first}
+use Rattle.rules.proofs.Invariants.Lists.{Ascending, ascending-insert, ascending-rest, bit-yes, bit-no, occurs-empty, occurs-none}
+use Rattle.rules.proofs.Invariants.Lists.{occurs-insert, occurs-first}
 use Rattle.rules.proofs.Invariants.Facts.{Unheld, Held, Unowned, LiveFits, SlotFits}
 
 module _ (N : ℕ) (u : ℕ → ℕ) (s : Slot) (fits : SlotFits N u s) (l : isLive s ≡ true) where
@@ -61,7 +62,8 @@ module _ (N : ℕ) (u : ℕ → ℕ) (s : Slot) (fits : SlotFits N u s) (l : isL
   -- ---- obtain
 
   module _ (caller : ℕ) (first : 1 ≤ caller) (last : caller ≤ N) where
-    pub take-fits : 1 ≤ s .count → SlotFits N u (counted s (s .count - 1) (choose (isBinary (s .attributes)) caller (s .owner)) (choose (isBinary (s .attributes)) 1 (s .nest)) (s .queue))
+    pub take-fits : 1 ≤ s .count → SlotFits N u
+        (counted s (s .count - 1) (choose (isBinary (s .attributes)) caller (s .owner)) (choose (isBinary (s .attributes)) 1 (s .nest)) (s .queue))
     take-fits h =
         counted-fits _ _ _ (s .queue) (omega (arith, fits .count))
         (choose-cases (λ (n : ℕ). n ≤ maxNumber) (isBinary (s .attributes)) 1 (s .nest) (λ b. omega arith) (λ b. fits .nest))
@@ -75,7 +77,14 @@ module _ (N : ℕ) (u : ℕ → ℕ) (s : Slot) (fits : SlotFits N u s) (l : isL
             let o : choose (isBinary (s .attributes)) caller (s .owner) ≡ caller = if-yes _ _ b in
             let n : choose (isBinary (s .attributes)) 1 (s .nest) ≡ 1 = if-yes _ _ b in
             ⊎-elim
-            (λ (z : Unheld s). inr (record { count = omega (arith, z .count); task = omega arith; most = omega arith; apart = occurs-empty _ (s .queue) (unqueued h); nest = omega arith }))
+            (λ (z : Unheld s). inr (record {
+              count = omega (arith, z .count);
+              task = omega arith;
+              most = omega arith;
+              apart = occurs-empty _
+                  (s .queue) (unqueued h);
+              nest = omega arith;
+            }))
             (λ (z : Held N s). absurd (omega (arith, z .count)))
             (live .owned b)
 
@@ -84,7 +93,8 @@ module _ (N : ℕ) (u : ℕ → ℕ) (s : Slot) (fits : SlotFits N u s) (l : isL
             let z = live .unowned b in
             record { owner = if-no _ _ b ∙ z .owner; nest = if-no _ _ b ∙ z .nest; simple = λ m. omega (arith, z .simple m) }
 
-    pub nest-fits : isBinary (s .attributes) ≡ true → s .owner ≡ caller → s .nest ≢ maxNumber → SlotFits N u (counted s (s .count) (s .owner) (s .nest + 1) (s .queue))
+    pub nest-fits : isBinary (s .attributes) ≡ true → s .owner ≡ caller → s .nest ≢ maxNumber
+        → SlotFits N u (counted s (s .count) (s .owner) (s .nest + 1) (s .queue))
     nest-fits b o n =
         counted-fits _ _ _ (s .queue) (fits .count) (omega (arith, fits .nest)) (live .entries) (live .ordered) (live .atZero)
         (λ m. ⊎-elim (λ (z : Unheld s). absurd (omega (arith, z .owner)))
@@ -92,12 +102,14 @@ module _ (N : ℕ) (u : ℕ → ℕ) (s : Slot) (fits : SlotFits N u s) (l : isL
         (live .owned b))
         (λ m. never b m)
 
-    pub join-fits : s .count < 1 → (isBinary (s .attributes) and ownedBy s caller) ≡ false → SlotFits N u (counted s (s .count) (s .owner) (s .nest) (insertAt (placeOf u s caller) caller (s .queue)))
+    pub join-fits : s .count < 1 → (isBinary (s .attributes) and ownedBy s caller) ≡ false
+        → SlotFits N u (counted s (s .count) (s .owner) (s .nest) (insertAt (placeOf u s caller) caller (s .queue)))
     unfolding placeOf
     join-fits h n =
         counted-fits _ _ _ (insertAt (placeOf u s caller) caller (s .queue)) (fits .count) (fits .nest)
         (omega (arith, occurs-insert 0 caller (placeOf u s caller) (s .queue), live .entries, bit-no _ (ne-eqb 0 caller (omega arith))))
-        (λ b. subst (λ (k : ℕ). Ascending u 0 (insertAt k caller (s .queue))) (sym (if-yes _ _ b)) (ascending-insert u caller 0 (s .queue) (omega arith) (live .ordered b)))
+        (λ b. subst (λ (k : ℕ). Ascending u 0 (insertAt k caller (s .queue))) (sym (if-yes _ _ b))
+        (ascending-insert u caller 0 (s .queue) (omega arith) (live .ordered b)))
         (λ q. omega arith)
         (λ b. ⊎-elim (λ (z : Unheld s). absurd (omega (arith, z .count))) (λ (z : Held N s). inr (held b z)) (live .owned b))
         (λ b. let z = live .unowned b in record { owner = z .owner; nest = z .nest; simple = z .simple })
@@ -167,8 +179,14 @@ module _ (N : ℕ) (u : ℕ → ℕ) (s : Slot) (fits : SlotFits N u s) (l : isL
       (λ (e : (isBinary (s .attributes) or isSimple (s .attributes)) ≡ false). omega (arith, limit-most e, fits .count))
       (tested (isBinary (s .attributes) or isSimple (s .attributes))))
       (omega arith) (live .entries) (live .ordered) (λ q. omega arith)
-      (λ b. let e : (isBinary (s .attributes) or isSimple (s .attributes)) ≡ true = or-first _ _ b in inl (record { count = omega (arith, limited e, limit-one e); owner = refl; nest = refl }))
-      (λ b. record { owner = refl; nest = refl; simple = λ m. let e : (isBinary (s .attributes) or isSimple (s .attributes)) ≡ true = or-second _ _ m in omega (arith, limited e, limit-one e) })
+      (λ b. let e : (isBinary (s .attributes) or isSimple (s .attributes)) ≡ true = or-first _ _ b in inl
+      (record { count = omega (arith, limited e, limit-one e); owner = refl; nest = refl }))
+      (λ b. record {
+        owner = refl;
+        nest = refl;
+        simple = λ m. let e :
+            (isBinary (s .attributes) or isSimple (s .attributes)) ≡ true = or-second _ _ m in omega (arith, limited e, limit-one e);
+      })
 
   -- ---- flush
 
@@ -182,7 +200,8 @@ module _ (N : ℕ) (u : ℕ → ℕ) (s : Slot) (fits : SlotFits N u s) (l : isL
 
 -- ---- create
 
-pub new-fits : (N : ℕ) (u : ℕ → ℕ) (generation caller name count attributes : ℕ) → generation < maxGeneration → 1 ≤ caller → caller ≤ N → 1 ≤ name → name ≤ maxNumber
+pub new-fits : (N : ℕ) (u : ℕ → ℕ) (generation caller name count attributes : ℕ) → generation < maxGeneration → 1 ≤ caller → caller ≤ N → 1 ≤ name
+    → name ≤ maxNumber
     → count ≤ maxNumber → allowed attributes ≡ true → ((isBinary attributes or isSimple attributes) ≡ true → count ≤ 1)
     → SlotFits N u (newSemaphore generation caller name count attributes)
 unfolding newSemaphore

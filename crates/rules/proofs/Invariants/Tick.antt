@@ -45,7 +45,8 @@ pub ticked-same : (v : Task) → expires v ≡ false → SameWait v (ticked v)
 unfolding ticked
 ticked-same v e =
     subst (SameWait v) (sym (if-no _ _ e))
-    (choose-cases (SameWait v) (waits v and leb 2 (v .ticks)) _ _ (λ w. record { answer = refl; awaited = refl }) (λ w. record { answer = refl; awaited = refl }))
+    (choose-cases (SameWait v) (waits v and leb 2 (v .ticks)) _ _ (λ w. record { answer = refl; awaited = refl })
+    (λ w. record { answer = refl; awaited = refl }))
 
 pub ticked-none : ticked noTask ≡ noTask
 unfolding ticked choose
@@ -59,14 +60,16 @@ module _ (t : Tables) where
   unfolding stillWaiting
   still-occurs q [] = choose-cases (λ (n : ℕ). occurs q [] ≡ n) (expires (taskOf t q)) 0 (occurs q []) (λ e. occurs-none q) (λ e. refl)
   still-occurs q (x ∷ xs) =
-      choose-cases (λ (n : ℕ). occurs q (choose (expires (taskOf t x)) (stillWaiting t xs) (x ∷ stillWaiting t xs)) ≡ n) (expires (taskOf t q)) 0 (occurs q (x ∷ xs))
+      choose-cases (λ (n : ℕ). occurs q (choose (expires (taskOf t x)) (stillWaiting t xs) (x ∷ stillWaiting t xs)) ≡ n) (expires (taskOf t q)) 0
+      (occurs q (x ∷ xs))
       (λ e. gone (still-occurs q xs ∙ if-yes _ _ e) e) (λ e. stands (still-occurs q xs ∙ if-no _ _ e) e)
     where
       -- another than q
       other : {b : Bool} → expires (taskOf t q) ≡ b → (expires (taskOf t x) ≡ b → ⊥) → bit (eqb q x) ≡ 0
       other {b} e n = bit-no (eqb q x) (ne-eqb q x (λ (s : q ≡ x). n (subst (λ (k : ℕ). expires (taskOf t k) ≡ b) s e)))
 
-      gone : occurs q (stillWaiting t xs) ≡ 0 → expires (taskOf t q) ≡ true → occurs q (choose (expires (taskOf t x)) (stillWaiting t xs) (x ∷ stillWaiting t xs)) ≡ 0
+      gone : occurs q (stillWaiting t xs) ≡ 0 → expires (taskOf t q) ≡ true
+          → occurs q (choose (expires (taskOf t x)) (stillWaiting t xs) (x ∷ stillWaiting t xs)) ≡ 0
       gone h e =
           choose-cases (λ (l : List ℕ). occurs q l ≡ 0) (expires (taskOf t x)) (stillWaiting t xs) (x ∷ stillWaiting t xs) (λ d. h)
           (λ d. omega (arith, occurs-cons q x (stillWaiting t xs), other e (λ m. never m d)))
@@ -93,7 +96,8 @@ module _ (t : Tables) where
   still-ascending u low [] a = tt
   still-ascending u low (x ∷ xs) a =
       let h = still-ascending u (u x) xs (a .1) in
-      choose-cases (Ascending u low) (expires (taskOf t x)) (stillWaiting t xs) (x ∷ stillWaiting t xs) (λ e. ascending-lower u (u x) low (stillWaiting t xs) (a .0) h) (λ e. (a .0, h))
+      choose-cases (Ascending u low) (expires (taskOf t x)) (stillWaiting t xs) (x ∷ stillWaiting t xs)
+      (λ e. ascending-lower u (u x) low (stillWaiting t xs) (a .0) h) (λ e. (a .0, h))
 
   -- ---- a slot
 
@@ -108,10 +112,13 @@ module _ (t : Tables) where
       live : isLive s ≡ true → SlotFits N u (tickedSlot t s)
       live l =
           let v = f .whenLive l in
-          counted-fits N u s f l _ _ _ (stillWaiting t (s .queue)) (f .count) (f .nest) (still-none 0 (s .queue) (v .entries)) (λ b. still-ascending u 0 (s .queue) (v .ordered b))
+          counted-fits N u s f l _ _ _ (stillWaiting t (s .queue)) (f .count) (f .nest) (still-none 0 (s .queue) (v .entries))
+          (λ b. still-ascending u 0 (s .queue) (v .ordered b))
           (λ h. v .atZero (omega (arith, still-length (s .queue))))
           (λ b. ⊎-elim (λ (z : Unheld s). inl (record { count = z .count; owner = z .owner; nest = z .nest }))
-          (λ (z : Held N s). inr (record { count = z .count; task = z .task; most = z .most; apart = still-none (s .owner) (s .queue) (z .apart); nest = z .nest })) (v .owned b))
+          (λ (z : Held N s). inr
+          (record { count = z .count; task = z .task; most = z .most; apart = still-none (s .owner) (s .queue) (z .apart); nest = z .nest }))
+          (v .owned b))
           (λ b. let z = v .unowned b in record { owner = z .owner; nest = z .nest; simple = z .simple })
 
       free : isLive s ≡ false → SlotFits N u (tickedSlot t s)
@@ -124,7 +131,15 @@ module _ (t : Tables) where
             count = f .count;
             nest = f .nest;
             whenLive = λ m. never m l;
-            whenFree = λ m. record { name = z .name; attributes = z .attributes; count = z .count; owner = z .owner; nest = z .nest; queue = omega (arith, z .queue, still-length (s .queue)) };
+            whenFree = λ m. record {
+              name = z .name;
+              attributes = z .attributes;
+              count = z .count;
+              owner = z .owner;
+              nest = z .nest;
+              queue = omega
+                  (arith, z .queue, still-length (s .queue));
+            };
           }
 
 -- ---- the call
