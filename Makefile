@@ -1,24 +1,31 @@
 # Mastclover. README.md says what each target is for.
-.PHONY: test build run lib example compare fuzz bench clean
+.PHONY: test check fmt build run lib example compare fuzz bench stack clean FORCE
 
 test:
 	@bash tools/test
+
+# Proves what has changed, and what uses it.
+check:
+	@mkdir -p build
+	@python3 tools/prove.py build/check.log rt check
+
+fmt:
+	@rt fmt
 
 # The session program, from the proved crate mast_session.
 build: build/mast-session
 
 build/mast-session: FORCE
 	@mkdir -p build
-	@rt check mast_session >build/session.log 2>&1 || { cat build/session.log; exit 1; }
+	@python3 tools/prove.py build/session.log rt check mast_session
 	@cmp -s target/bin/mast_session $@ || cp target/bin/mast_session $@
 
-# The answers to the sessions in examples/, or to the one that SESSION names.
+# The sessions of examples/, or the one that SESSION names, each line with its answer.
 run: build
 ifdef SESSION
-	@build/mast-session "$(SESSION)"
+	@python3 tools/show_session.py build/mast-session "$(SESSION)"
 else
-	@build/mast-session examples/worked.session
-	@build/mast-session examples/day.session
+	@python3 tools/show_session.py build/mast-session examples/worked.session examples/day.session
 endif
 
 # The static library for C, from the proved crate capi.
@@ -26,7 +33,7 @@ lib: build/libmastclover.a
 
 build/libmastclover.a: FORCE
 	@mkdir -p build
-	@rt staticlib capi >build/lib.log 2>&1 || { cat build/lib.log; exit 1; }
+	@python3 tools/prove.py build/lib.log rt staticlib capi
 	@cmp -s target/staticlib/libcapi.a $@ || cp target/staticlib/libcapi.a $@
 
 FORCE:
@@ -50,11 +57,10 @@ bench: compare build
 	@$(CC) -std=gnu99 -Wall -Wextra -O2 -Iinclude tools/test_time.c build/libmastclover.a -o build/test_time
 	python3 tools/bench_session.py
 
-clean:
-	rm -rf target build compare/target
-
 # The most stack that each C function takes, measured.
-.PHONY: stack
 stack: lib
 	@$(CC) -std=gnu99 -Wall -Wextra -O2 -Wl,-z,now -Iinclude tools/stack.c build/libmastclover.a -o build/stack
 	@build/stack
+
+clean:
+	rm -rf target build compare/target
