@@ -1,0 +1,114 @@
+"""Every constant of the C header is the number that the definitions have.
+
+check_header.py [HEADER]
+A macro MAST_.. that no definition has fails, and so does a number of crates/rules/specs/Numbers.antt without a macro,
+but for those in UNNAMED.
+"""
+import pathlib
+import re
+import subprocess
+import sys
+import tempfile
+
+top = pathlib.Path(__file__).resolve().parent.parent
+NUMBERS = top / "crates/rules/specs/Numbers.antt"
+SPECS = {name: (top / f"crates/{name}/specs") for name in ("rules", "tables")}
+# No call takes a generation, and every 32-bit number is one: these limits have no macro.
+UNNAMED = {"maxGeneration", "maxNumber"}
+
+
+# ---- the definitions
+
+def body(name):
+    """The right side of a definition of rules or tables, without comments."""
+    pattern = rf"^{name}(?: [^=\n]*)? =((?:.*\n)(?:[ \t]+.*\n)*)"
+    for folder in SPECS.values():
+        for path in sorted(folder.glob("*.antt")):
+            if found := re.search(pattern, path.read_text() + "\n", re.M):
+                return re.sub(r"--.*", "", found[1])
+    sys.exit(f"no definition of {name}")
+
+
+def number(name):
+    """A number by its definition, which may be a sum or product of numbers and of others so defined."""
+    text = re.sub(r"[A-Za-z]\w*", lambda m: str(number(m[0])), body(name).strip())
+    if not re.fullmatch(r"[\d+*() -]+", text):
+        sys.exit(f"{name} is no number: {text}")
+    return eval(text)
+
+
+def literals(name, before=""):
+    """The literals of a definition, those alone that stand behind `before`."""
+    found = [int(n) for n in re.findall(before + r"(?<![\w.])(\d+)\b", body(name))]
+    return found or sys.exit(f"{name} has no number behind {before!r}")
+
+
+# ---- the header
+
+def macros(header):
+    """Name to value of every MAST_ macro, as the compiler sees it."""
+    folder, name = header.parent, header.name
+    said = subprocess.run(["gcc", "-dM", "-E", "-x", "c", header], stdout=subprocess.PIPE, text=True, check=True).stdout
+    names = re.findall(r"^#define (MAST_\w+)(?=[\s])", said, re.M)
+    shown = "".join(f'    printf("{n} %llu\\n", (unsigned long long)({n}));\n' for n in names)
+    source = f'#include <stdio.h>\n#include "{name}"\nint main(void)\n{{\n{shown}    return 0;\n}}\n'
+    with tempfile.TemporaryDirectory() as made:
+        run = ["gcc", "-x", "c", "-I", folder, "-o", f"{made}/show", "-"]
+        subprocess.run(run, input=source, text=True, check=True)
+        out = subprocess.run([f"{made}/show"], stdout=subprocess.PIPE, text=True, check=True).stdout
+    return {n: int(v) for n, v in (line.split() for line in out.splitlines())}
+
+
+def expected():
+    """Name to number, by the definitions."""
+    sized = {
+        "MAST_TABLES_LENGTH": number("tablesLength"),
+        "MAST_MAXIMUM_TASKS": number("maxTasks"),
+        "MAST_MAXIMUM_SLOTS": number("maxSlots"),
+        "MAST_MINIMUM_PRIORITY": int(re.search(r"within (\d+) maxPriority", body("startRefusal"))[1]),
+        "MAST_MAXIMUM_PRIORITY": number("maxPriority"),
+    }
+    statuses = {f"MAST_{snake(name)}": number(name) for name in defined() if not name.startswith("max")}
+    binary, simple, ordered = (set(literals(n)) for n in ("isBinary", "isSimple", "byPriority"))
+    plain = set(literals("allowed")) - binary - simple
+    (default,) = plain - ordered
+    attributes = {
+        "MAST_DEFAULT_ATTRIBUTES": default,
+        "MAST_FIFO": default,
+        "MAST_COUNTING_SEMAPHORE": default,
+        "MAST_PRIORITY": only(plain & ordered) - default,
+        "MAST_BINARY_SEMAPHORE": only(binary - ordered) - default,
+        "MAST_SIMPLE_BINARY_SEMAPHORE": only(simple - ordered) - default,
+    }
+    # waitOf: bit 0 of the options polls, so no other bit is an option
+    modulus, polls = literals("waitOf", r"options % ")[0], literals("waitOf", r"options % \d+\) ")[0]
+    options = {"MAST_NO_WAIT": polls, "MAST_WAIT": (polls + 1) % modulus, "MAST_DEFAULT_OPTIONS": (polls + 1) % modulus}
+    return {**sized, **statuses, **attributes, **options, "MAST_NO_TIMEOUT": literals("waitOf", r"eqb timeout ")[0]}
+
+
+def only(numbers):
+    (number,) = numbers
+    return number
+
+
+def defined():
+    names = re.findall(r"^(\w+) = \d+$", NUMBERS.read_text(), re.M)
+    return [name for name in names if name not in UNNAMED]
+
+
+def snake(name):
+    return re.sub(r"(?<=[a-z])(?=[A-Z])", "_", name).upper()
+
+
+def main():
+    header = pathlib.Path(sys.argv[1] if len(sys.argv) > 1 else top / "include/mastclover.h").resolve()
+    given, wanted = macros(header), expected()
+    faults = [f"{name} is {value} and has no definition" for name, value in given.items() if name not in wanted]
+    faults += [f"{name} is missing; it is {value}" for name, value in wanted.items() if name not in given]
+    both = given.keys() & wanted.keys()
+    faults += [f"{n} is {given[n]}, and by the definitions {wanted[n]}" for n in sorted(both) if given[n] != wanted[n]]
+    print("\n".join(faults) if faults else f"{len(given)} constants")
+    sys.exit(1 if faults else 0)
+
+
+main()
