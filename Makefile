@@ -54,7 +54,7 @@ fuzz: compare
 
 bench: compare build
 	compare/target/release/bench
-	@$(CC) -std=gnu99 -Wall -Wextra -O2 -Iinclude tools/test_time.c build/libmastclover.a -o build/test_time
+	@$(CC) -std=gnu99 -Wall -Wextra -O2 -Iinclude tools/bench_agreement.c build/libmastclover.a -o build/bench_agreement
 	python3 tools/bench_session.py
 
 # The most stack that each C function takes, measured.

@@ -27,7 +27,7 @@ print(f"a replay of {LINES} lines with 32 tasks, mostly ticks, best of five")
 for name, taken in best.items():
     print(f"  {name:14s}{taken:8.3f} s")
 print(f"  ratio         {best['mast-session'] / best['plain Rust']:8.2f}")
-test = float(subprocess.run([top / "build/test_time"], stdout=subprocess.PIPE, check=True).stdout)
+test = float(subprocess.run([top / "build/bench_agreement"], stdout=subprocess.PIPE, check=True).stdout)
 share = test * LINES / 1e9 / best["mast-session"]
 print(f"  the test for 25 takes {test:.0f} ns on such tables (an ident of name 0): {share:.0%} of the proved program's time")
 replay.unlink()

@@ -6,35 +6,42 @@
 #include "mastclover.h"
 
 enum { STACK = 65536, PAINT = 0xA5 };
+enum function { START, CREATE, IDENT, DELETE, OBTAIN, RELEASE, FLUSH, TICK, TASK, FUNCTIONS };
 
 static unsigned char stack[STACK];
 static uint8_t tables[MAST_TABLES_LENGTH];
 static ucontext_t here, there;
-static const char *kind;
-static size_t most[9];
-static const char *names[9] = { "start", "create", "ident", "delete", "obtain", "release", "flush", "tick", "task" };
+
+static const char *const names[FUNCTIONS] = {
+    "start", "create", "ident", "delete", "obtain", "release", "flush", "tick", "task",
+};
+static size_t most[FUNCTIONS];
+
+/* The call to be made: a context's entry takes no arguments. */
+static enum function function;
 static uint32_t a, b, c, d;
 
 static void call(void)
 {
     static const uint32_t priorities[] = { 1, 2, 3, 3, 2, 1, 9, 8 };
-    switch (kind[0] * 256 + kind[1]) {
-    case 's' * 256 + 't': mast_start(tables, sizeof tables, a, priorities, 8); break;
-    case 'c' * 256 + 'r': mast_create(tables, sizeof tables, a, b, c, d); break;
-    case 'i' * 256 + 'd': mast_ident(tables, sizeof tables, a); break;
-    case 'd' * 256 + 'e': mast_delete(tables, sizeof tables, a, b); break;
-    case 'o' * 256 + 'b': mast_obtain(tables, sizeof tables, a, b, c, d); break;
-    case 'r' * 256 + 'e': mast_release(tables, sizeof tables, a, b); break;
-    case 'f' * 256 + 'l': mast_flush(tables, sizeof tables, a, b); break;
-    case 't' * 256 + 'i': mast_tick(tables, sizeof tables); break;
-    default: mast_task(tables, sizeof tables, a); break;
+    switch (function) {
+    case START: mast_start(tables, sizeof tables, a, priorities, 8); break;
+    case CREATE: mast_create(tables, sizeof tables, a, b, c, d); break;
+    case IDENT: mast_ident(tables, sizeof tables, a); break;
+    case DELETE: mast_delete(tables, sizeof tables, a, b); break;
+    case OBTAIN: mast_obtain(tables, sizeof tables, a, b, c, d); break;
+    case RELEASE: mast_release(tables, sizeof tables, a, b); break;
+    case FLUSH: mast_flush(tables, sizeof tables, a, b); break;
+    case TICK: mast_tick(tables, sizeof tables); break;
+    case TASK: mast_task(tables, sizeof tables, a); break;
+    case FUNCTIONS: break;
     }
 }
 
-static void run(int which, uint32_t w, uint32_t x, uint32_t y, uint32_t z)
+static void run(enum function which, uint32_t w, uint32_t x, uint32_t y, uint32_t z)
 {
     size_t left = 0;
-    kind = names[which];
+    function = which;
     a = w, b = x, c = y, d = z;
     memset(stack, PAINT, sizeof stack);
     getcontext(&there);
@@ -52,22 +59,22 @@ static void run(int which, uint32_t w, uint32_t x, uint32_t y, uint32_t z)
 int main(void)
 {
     uint32_t i, round;
-    run(0, 4, 0, 0, 0);
+    run(START, 4, 0, 0, 0);
     for (round = 0; round < 4; round++) {
         uint32_t id = (round + 1) * 65536 + 1;
-        run(1, 1, 7, round % 2, round == 1 ? 20 : 4);
-        run(2, 7, 0, 0, 0);
+        run(CREATE, 1, 7, round % 2, round == 1 ? MAST_BINARY_SEMAPHORE | MAST_PRIORITY : MAST_PRIORITY);
+        run(IDENT, 7, 0, 0, 0);
         for (i = 2; i <= 8; i++)
-            run(4, i, id, i == 8, i == 3 ? 1 : 0);
-        run(8, 3, 0, 0, 0);
-        run(7, 0, 0, 0, 0);
-        run(5, round == 1 ? 2 : 1, id, 0, 0);
-        run(6, 0, id, 0, 0);
-        run(5, round == 1 ? 4 : 1, id, 0, 0);
-        run(0, 4, 0, 0, 0);
-        run(3, 1, id, 0, 0);
+            run(OBTAIN, i, id, i == 8 ? MAST_NO_WAIT : MAST_WAIT, i == 3 ? 1 : MAST_NO_TIMEOUT);
+        run(TASK, 3, 0, 0, 0);
+        run(TICK, 0, 0, 0, 0);
+        run(RELEASE, round == 1 ? 2 : 1, id, 0, 0);
+        run(FLUSH, 0, id, 0, 0);
+        run(RELEASE, round == 1 ? 4 : 1, id, 0, 0);
+        run(START, 4, 0, 0, 0);
+        run(DELETE, 1, id, 0, 0);
     }
-    for (i = 0; i < 9; i++)
+    for (i = 0; i < FUNCTIONS; i++)
         printf("mast_%-8s %5zu bytes\n", names[i], most[i]);
     return 0;
 }
