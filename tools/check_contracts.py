@@ -1,44 +1,71 @@
-"""Every `pub fn` of the libraries has an `ensures`, and no entry point on lent tables has a `requires`.
+"""Every `pub fn` of the libraries has an `ensures` that says something, and no entry point on lent tables has a `requires`.
 
-Entry points are the public functions of the crates named in ENTRIES and every `extern "C"` function.
+Entry points are the public functions of the crates named in ENTRIES and every `extern "C"` function. An `ensures` says
+nothing if it speaks of the result alone, as `r ≡ r`, or if each of its parts is an equation with the same two sides.
 """
 import pathlib
 import re
 import sys
 
+from rt_source import functions
+
 ENTRIES = {"manager", "capi", "session"}
-CLAUSE = re.compile(r"\s*(ghost|requires|ensures)\b")
+# Words that name neither a definition nor an argument.
+EMPTY = {"true", "false", "refl", "tt", "λ"}
 
 
-def functions(text):
-    """(line number, header text) of each public function: from `pub .. fn` to the brace that opens its body."""
-    lines = text.splitlines()
-    for at, line in enumerate(lines):
-        if not re.match(r"\s*pub (extern \"C\" )?fn ", line):
-            continue
-        header = []
-        for rest in lines[at:]:
-            header.append(rest)
-            if rest.strip() == "{" or (rest.rstrip().endswith("{") and not CLAUSE.match(rest)):
-                break
-        yield at + 1, header
+def says_nothing(ensures):
+    bound = set(re.findall(r"λ\s+([\w ]+)\.", ensures))
+    text = re.sub(r"λ\s+[\w ]+\.|[⌜⌝]", " ", ensures)
+    words = re.findall(r"(?<![\w.])(?<! \.)[^\W_][\w·-]*", text)
+    if not set(words) - EMPTY - {name for names in bound for name in names.split()}:
+        return True
+    return all(same_sides(part) for part in parts(text))
+
+
+def parts(text):
+    """What `×` joins, outside of brackets."""
+    depth, found = 0, [""]
+    for letter in text:
+        depth += (letter in "([{") - (letter in ")]}")
+        if letter == "×" and depth == 0:
+            found.append("")
+        else:
+            found[-1] += letter
+    return found
+
+
+def same_sides(part):
+    part = " ".join(part.split())
+    while part.startswith("(") and part.endswith(")"):
+        part = part[1:-1].strip()
+    left, sign, right = part.partition("≡")
+    return bool(sign) and left.strip() == right.strip()
 
 
 def faults(path, crate):
-    for number, header in functions(path.read_text()):
-        clauses = [m.group(1) for m in map(CLAUSE.match, header) if m]
-        name = re.search(r"fn (\w+)", header[0]).group(1)
-        if "ensures" not in clauses:
-            yield f"{number}: `{name}` has no ensures"
-        entry = crate in ENTRIES or 'extern "C"' in header[0]
-        if entry and "requires" in clauses:
-            yield f"{number}: `{name}` is an entry point and has a requires"
+    for function in functions(path.read_text()):
+        if not function.public:
+            continue
+        ensures = [text for kind, text in function.clauses if kind == "ensures"]
+        if not ensures:
+            yield f"{function.line}: `{function.name}` has no ensures"
+        elif all(map(says_nothing, ensures)):
+            yield f"{function.line}: the ensures of `{function.name}` says nothing"
+        if (crate in ENTRIES or function.exported) and any(kind == "requires" for kind, _ in function.clauses):
+            yield f"{function.line}: `{function.name}` is an entry point and has a requires"
 
 
-top = pathlib.Path(__file__).resolve().parent.parent
-found = 0
-for path in sorted(top.glob("crates/*/src/*.rt")):
-    for fault in faults(path, path.parts[-3]):
-        print(f"{path.relative_to(top)}:{fault}")
-        found += 1
-sys.exit(1 if found else 0)
+def main():
+    top = pathlib.Path(__file__).resolve().parent.parent
+    found = 0
+    for path in sorted(top.glob("crates/*/src/**/*.rt")):
+        crate = path.relative_to(top).parts[1]
+        for fault in faults(path, crate):
+            print(f"{path.relative_to(top)}:{fault}")
+            found += 1
+    sys.exit(1 if found else 0)
+
+
+if __name__ == "__main__":
+    main()
