@@ -38,10 +38,12 @@ build/libmastclover.a: FORCE
 
 FORCE:
 
-# The C program to start from, run.
-example: lib
-	@$(CC) -std=c99 -Wall -Wextra -pedantic -Werror -O2 -Iinclude examples/tag.c build/libmastclover.a -o build/tag
-	@build/tag
+# The C programs to start from, run: first.c, then tag.c.
+example: lib build/first build/tag
+	@echo "examples/first.c" && build/first && echo && echo "examples/tag.c" && build/tag
+
+build/first build/tag: build/%: examples/%.c include/mastclover.h build/libmastclover.a
+	@$(CC) -std=c99 -Wall -Wextra -pedantic -Werror -O2 -Iinclude $< build/libmastclover.a -o $@
 
 # The independent implementation, linked with the library.
 compare: lib

@@ -1,8 +1,11 @@
 /*
  * A tag with three tasks: the radio hears packets, the display shows them, the logger writes them
- * to flash. Display and flash share one bus. The tasks are small state machines that run to the end
- * of a step; after each step the task that the manager named last, `next`, takes its turn. With no
- * task ready the tag sleeps until an interrupt, which here comes from a list.
+ * to flash. Display and flash share one bus. first.c is the program to read before this one.
+ *
+ * The tasks are small state machines that run to the end of a step on one stack, so that the switch
+ * to a task is a call: after each step the one that the manager named last, `next`, takes its turn.
+ * With no task ready the tag sleeps until an interrupt, which here comes from a list. On a board
+ * handlers break in anywhere, so a task masks interrupts around each call.
  *
  *     packets  counting        the radio's interrupt releases it once for each packet
  *     entries  counting        the radio releases it once for each entry to be logged
@@ -16,9 +19,9 @@
 
 #include "mastclover.h"
 
-/* Four letters as one number, the way rtems_build_name makes names. */
-#define NAME(a, b, c, d) \
-    ((uint32_t)(a) << 24 | (uint32_t)(b) << 16 | (uint32_t)(c) << 8 | (uint32_t)(d))
+/* On a Cortex-M these are __disable_irq() and __enable_irq(). Nothing interrupts this program. */
+#define MASK() ((void)0)
+#define UNMASK() ((void)0)
 
 #define INTERRUPT 0      /* the caller of a call made by an interrupt */
 #define SLOTS 6
@@ -32,7 +35,7 @@ struct task {
     void (*step)(struct task *self);
     int state;
     int waiting;
-    uint32_t answer; /* how its latest obtain ended, waited for or not */
+    mast_status answer; /* how its latest obtain ended, waited for or not */
 };
 
 static void radio_step(struct task *self);
@@ -52,9 +55,9 @@ static uint8_t tables[MAST_TABLES_LENGTH];
 static uint32_t next;  /* the task whose turn it is, or 0 */
 static unsigned ticks; /* since power on */
 
-static uint32_t packets, entries, redraw, bus, flash, halt;
+static mast_id packets, entries, redraw, bus, flash, halt;
 
-static const char *status_name(uint32_t status)
+static const char *status_name(mast_status status)
 {
     switch (status) {
     case MAST_SUCCESSFUL: return "successful";
@@ -72,12 +75,12 @@ static void say(const char *who, const char *what)
     printf("%2u %-9s %s\n", ticks, who, what);
 }
 
-static void say_status(const char *who, const char *what, uint32_t status)
+static void say_status(const char *who, const char *what, mast_status status)
 {
     printf("%2u %-9s %s: %s\n", ticks, who, what, status_name(status));
 }
 
-/* Every answer names the task to run next; damaged tables leave nothing to go on with. */
+/* Every answer names the task to switch to; damaged tables leave nothing to go on with. */
 static mast_answer heed(mast_answer answer)
 {
     if (answer.status == MAST_INTERNAL_ERROR) {
@@ -99,43 +102,64 @@ static mast_answer expect(mast_answer answer)
     return answer;
 }
 
-static uint32_t create(const struct task *self, uint32_t name, uint32_t count, uint32_t attributes)
+static mast_id create(const struct task *self, mast_name name, uint32_t count, uint32_t attributes)
 {
-    return expect(mast_create(tables, sizeof tables, self->number, name, count, attributes)).value;
+    mast_answer answer;
+    MASK();
+    answer = expect(mast_create(tables, sizeof tables, self->number, name, count, attributes));
+    UNMASK();
+    return answer.value;
 }
 
-static uint32_t ident(uint32_t name)
+static mast_id ident(mast_name name)
 {
-    return expect(mast_ident(tables, sizeof tables, name)).value;
+    mast_answer answer;
+    MASK();
+    answer = expect(mast_ident(tables, sizeof tables, name));
+    UNMASK();
+    return answer.value;
 }
 
 /* The step has to end after this: the task may be waiting. Its next step finds the answer. */
-static void obtain(struct task *self, uint32_t id, uint32_t timeout)
+static void obtain(struct task *self, mast_id id, uint32_t timeout)
 {
-    self->answer =
-        heed(mast_obtain(tables, sizeof tables, self->number, id, MAST_WAIT, timeout)).status;
-    self->waiting = self->answer == MAST_WAITING;
+    mast_answer answer;
+    MASK();
+    answer = heed(mast_obtain(tables, sizeof tables, self->number, id, MAST_WAIT, timeout));
+    UNMASK();
+    self->answer = answer.status;
+    self->waiting = answer.status == MAST_WAITING;
 }
 
-static uint32_t release(uint32_t caller, uint32_t id)
+static mast_status release(const struct task *self, mast_id id)
 {
-    return heed(mast_release(tables, sizeof tables, caller, id)).status;
+    mast_answer answer;
+    MASK();
+    answer = heed(mast_release(tables, sizeof tables, self->number, id));
+    UNMASK();
+    return answer.status;
 }
 
-static void delete_semaphore(const struct task *self, uint32_t id)
+static void delete_semaphore(const struct task *self, mast_id id)
 {
+    MASK();
     expect(mast_delete(tables, sizeof tables, self->number, id));
+    UNMASK();
 }
 
 /* The radio is the most urgent task and runs first, so it makes them; redraw is found by name. */
 static void create_semaphores(const struct task *self)
 {
-    packets = create(self, NAME('P', 'K', 'T', 'S'), 0, MAST_COUNTING_SEMAPHORE | MAST_FIFO);
-    entries = create(self, NAME('E', 'N', 'T', 'R'), 0, MAST_COUNTING_SEMAPHORE | MAST_FIFO);
-    create(self, NAME('D', 'R', 'A', 'W'), 0, MAST_SIMPLE_BINARY_SEMAPHORE | MAST_FIFO);
-    bus = create(self, NAME('B', 'U', 'S', ' '), 1, MAST_BINARY_SEMAPHORE | MAST_PRIORITY);
-    flash = create(self, NAME('F', 'L', 'S', 'H'), 0, MAST_SIMPLE_BINARY_SEMAPHORE | MAST_FIFO);
-    halt = create(self, NAME('H', 'A', 'L', 'T'), 0, MAST_COUNTING_SEMAPHORE | MAST_FIFO);
+    const uint32_t counting = MAST_COUNTING_SEMAPHORE | MAST_FIFO;
+    const uint32_t simple = MAST_SIMPLE_BINARY_SEMAPHORE | MAST_FIFO;
+    const uint32_t binary = MAST_BINARY_SEMAPHORE | MAST_PRIORITY;
+
+    packets = create(self, mast_build_name('P', 'K', 'T', 'S'), 0, counting);
+    entries = create(self, mast_build_name('E', 'N', 'T', 'R'), 0, counting);
+    create(self, mast_build_name('D', 'R', 'A', 'W'), 0, simple);
+    bus = create(self, mast_build_name('B', 'U', 'S', ' '), 1, binary);
+    flash = create(self, mast_build_name('F', 'L', 'S', 'H'), 0, simple);
+    halt = create(self, mast_build_name('H', 'A', 'L', 'T'), 0, counting);
 }
 
 /* Deleting what the others wait on tells them to finish; its identifier is never valid again. */
@@ -143,7 +167,7 @@ static void close_down(const struct task *self)
 {
     delete_semaphore(self, redraw);
     delete_semaphore(self, entries);
-    say_status(self->name, "asks for one more redraw", release(self->number, redraw));
+    say_status(self->name, "asks for one more redraw", release(self, redraw));
 }
 
 static void radio_step(struct task *self)
@@ -164,8 +188,8 @@ static void radio_step(struct task *self)
         if (self->answer == MAST_SUCCESSFUL) {
             say(self->name, "heard a packet");
             /* A redraw already asked for is as good, so a refusal is no error. */
-            say_status(self->name, "asks for a redraw", release(self->number, redraw));
-            say_status(self->name, "asks for an entry", release(self->number, entries));
+            say_status(self->name, "asks for a redraw", release(self, redraw));
+            say_status(self->name, "asks for an entry", release(self, entries));
             self->state = LISTEN;
         } else {
             say(self->name, "closes down");
@@ -184,7 +208,7 @@ static void draw_text(struct task *self)
 {
     obtain(self, bus, MAST_NO_TIMEOUT);
     say_status(self->name, "draws with the bus obtained twice", self->answer);
-    release(self->number, bus);
+    release(self, bus);
 }
 
 static void display_step(struct task *self)
@@ -193,7 +217,7 @@ static void display_step(struct task *self)
 
     switch (self->state) {
     case BOOT:
-        redraw = ident(NAME('D', 'R', 'A', 'W'));
+        redraw = ident(mast_build_name('D', 'R', 'A', 'W'));
         say(self->name, "found its semaphore by name");
         self->state = IDLE;
         break;
@@ -214,7 +238,7 @@ static void display_step(struct task *self)
     case DRAW:
         draw_text(self);
         self->state = IDLE;
-        say_status(self->name, "releases the bus", release(self->number, bus));
+        say_status(self->name, "releases the bus", release(self, bus));
         break;
     case DONE:
         obtain(self, halt, MAST_NO_TIMEOUT);
@@ -249,7 +273,7 @@ static void logger_step(struct task *self)
     case WRITTEN:
         say(self->name, self->answer == MAST_SUCCESSFUL ? "wrote an entry" : "drops the entry");
         self->state = IDLE;
-        say_status(self->name, "releases the bus", release(self->number, bus));
+        say_status(self->name, "releases the bus", release(self, bus));
         break;
     case DONE:
         obtain(self, halt, MAST_NO_TIMEOUT);
@@ -265,6 +289,12 @@ static const enum event day[] = {
     BATTERY_LOW,
 };
 
+/* A handler runs masked, so it makes its calls as they are. */
+static mast_status release_from_interrupt(mast_id id)
+{
+    return heed(mast_release(tables, sizeof tables, INTERRUPT, id)).status;
+}
+
 static void interrupt(enum event event)
 {
     switch (event) {
@@ -273,10 +303,10 @@ static void interrupt(enum event event)
         expect(mast_tick(tables, sizeof tables));
         break;
     case PACKET:
-        say_status("interrupt", "a packet", release(INTERRUPT, packets));
+        say_status("interrupt", "a packet", release_from_interrupt(packets));
         break;
     case FLASH_READY:
-        say_status("interrupt", "the flash is ready", release(INTERRUPT, flash));
+        say_status("interrupt", "the flash is ready", release_from_interrupt(flash));
         break;
     case BATTERY_LOW:
         say("interrupt", "the battery is low");
@@ -285,11 +315,14 @@ static void interrupt(enum event event)
     }
 }
 
-/* One turn of the task whose turn it is; one that waited first learns how that ended. */
-static void take_turn(struct task *task)
+/* The switch: a step of the task that is next. One that waited first learns how that ended. */
+static void switch_to(uint32_t number)
 {
+    struct task *task = &tasks[number - 1];
     if (task->waiting) {
+        MASK();
         task->answer = expect(mast_task(tables, sizeof tables, task->number)).value;
+        UNMASK();
         task->waiting = 0;
         say_status(task->name, "wakes", task->answer);
     }
@@ -303,7 +336,7 @@ int main(void)
     expect(mast_start(tables, sizeof tables, SLOTS, priorities, TASKS));
     for (event = 0; event <= sizeof day / sizeof day[0]; event++) {
         while (next != 0) {
-            take_turn(&tasks[next - 1]);
+            switch_to(next);
         }
         if (event < sizeof day / sizeof day[0]) {
             interrupt(day[event]);

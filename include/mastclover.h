@@ -10,7 +10,7 @@
  *
  *     mast_answer answer = mast_start(tables, sizeof tables, 4, priorities, 2);
  *     answer = mast_create(tables, sizeof tables, 1, 77, 1, MAST_BINARY_SEMAPHORE | MAST_PRIORITY);
- *     uint32_t bus = answer.value;
+ *     mast_id bus = answer.value;
  *     answer = mast_obtain(tables, sizeof tables, 2, bus, MAST_WAIT, MAST_NO_TIMEOUT);
  *
  * Link with libmastclover.a, which is built for x86-64 Linux today.
@@ -19,13 +19,15 @@
  * the most urgent, 255 the least. A task is ready, or waits on one semaphore.
  *
  * Callers. `caller` is the number of the task that makes the call. An interrupt is caller 0; it may
- * call mast_release and mast_flush. mast_start, mast_ident, mast_tick and mast_task have no caller and
- * may be called from anywhere. A call must not be interrupted by another one on the same tables: mask
- * interrupts around each call if handlers make calls too.
+ * call mast_release and mast_flush. mast_start, mast_ident, mast_tick and mast_task have no caller
+ * and may be called from anywhere. A call must not be interrupted by another one on the same
+ * tables: mask interrupts around each call, and around the switch to `next`, if handlers make calls
+ * too. examples/first.c shows both.
  *
  * Waiting. mast_obtain never blocks. MAST_WAITING says that the caller now waits: it must not make
- * calls before it is ready again. How its wait ended is then the value of mast_task: MAST_SUCCESSFUL
- * (it has the semaphore), MAST_TIMEOUT, MAST_OBJECT_WAS_DELETED or MAST_UNSATISFIED (flushed).
+ * calls before it is ready again. How its wait ended is then the value of mast_task:
+ * MAST_SUCCESSFUL (it has the semaphore), MAST_TIMEOUT, MAST_OBJECT_WAS_DELETED or MAST_UNSATISFIED
+ * (flushed).
  *
  * Identifiers are generation * 65536 + slot, with slots from 1. A slot's generation goes up by one
  * with each create, so the identifier of a deleted semaphore is never given again. A slot freed at
@@ -37,7 +39,8 @@
  * The tables. Words of four bytes, high byte first, at any alignment:
  *     word 0              N, the number of tasks
  *     word 1              S, the number of slots
- *     words 2 to 129      four for each of 32 tasks: priority, answer, identifier waited on, ticks left
+ *     words 2 to 129      four for each of 32 tasks: priority, answer, identifier waited on, ticks
+ *                         left
  *     words 130 to 2689   forty for each of 64 slots: generation, live (0 or 1), name, attributes,
  *                         count, owner, nest, queue length, and 32 of the queue (task numbers, the
  *                         first to be served first)
@@ -66,7 +69,7 @@ extern "C" {
 #define MAST_MAXIMUM_PRIORITY 255
 
 /* Statuses, with the names and numbers of RTEMS (RTEMS_SUCCESSFUL and so on). */
-#define MAST_SUCCESSFUL 0             /* done; as a task's answer: the wait ended with the semaphore */
+#define MAST_SUCCESSFUL 0             /* done; a task's answer: it waited and has the semaphore */
 #define MAST_INVALID_NAME 3           /* name 0, or no live semaphore has the name */
 #define MAST_INVALID_ID 4             /* no live semaphore has the identifier; no such task */
 #define MAST_TOO_MANY 5               /* no slot is left for another semaphore */
@@ -75,21 +78,21 @@ extern "C" {
 #define MAST_INVALID_NUMBER 10        /* a count above 1 for a binary class; N or S out of limits */
 #define MAST_NOT_DEFINED 11           /* attributes that are not offered */
 #define MAST_RESOURCE_IN_USE 12       /* the binary semaphore has an owner */
-#define MAST_UNSATISFIED 13           /* not to be had, or at its maximum; a task's answer: flushed */
+#define MAST_UNSATISFIED 13           /* not to be had, at its maximum; a task's answer: flushed */
 #define MAST_INCORRECT_STATE 14       /* the caller is waiting; already started */
 #define MAST_CALLED_FROM_ISR 18       /* an interrupt (caller 0) may not make this call */
 #define MAST_INVALID_PRIORITY 19      /* a priority outside 1 to 255 */
 #define MAST_NOT_OWNER_OF_RESOURCE 23 /* only its owner may release a binary semaphore */
 #define MAST_INTERNAL_ERROR 25        /* the tables are damaged or have the wrong length */
-#define MAST_WAITING 100              /* not of RTEMS: the caller now waits; a task's answer: it waits */
+#define MAST_WAITING 100              /* not of RTEMS: the caller now waits, or still does */
 
 /* Attributes of mast_create: one order and one class, added. Any other bit is MAST_NOT_DEFINED. */
-#define MAST_DEFAULT_ATTRIBUTES 0      /* FIFO, counting */
-#define MAST_FIFO 0                    /* waiters are served by arrival */
-#define MAST_PRIORITY 4                /* waiters are served by priority, equals by arrival */
-#define MAST_COUNTING_SEMAPHORE 0      /* a count up to 4294967295, released by anyone */
-#define MAST_BINARY_SEMAPHORE 16       /* has an owner, who may nest and who alone may release */
-#define MAST_SIMPLE_BINARY_SEMAPHORE 32 /* a count of 0 or 1, no owner, no nesting, released by anyone */
+#define MAST_DEFAULT_ATTRIBUTES 0       /* FIFO, counting */
+#define MAST_FIFO 0                     /* waiters are served by arrival */
+#define MAST_PRIORITY 4                 /* waiters are served by priority, equals by arrival */
+#define MAST_COUNTING_SEMAPHORE 0       /* a count up to 4294967295, released by anyone */
+#define MAST_BINARY_SEMAPHORE 16        /* has an owner, who may nest and who alone may release */
+#define MAST_SIMPLE_BINARY_SEMAPHORE 32 /* a count of 0 or 1, no owner, released by anyone */
 
 /* Options of mast_obtain. Only bit 0 has an effect. */
 #define MAST_DEFAULT_OPTIONS 0
@@ -99,13 +102,23 @@ extern "C" {
 /* The timeout of mast_obtain that waits for ever. */
 #define MAST_NO_TIMEOUT 0
 
+/* A status or a task's answer; a semaphore's identifier; its name, any number but 0. */
+typedef uint32_t mast_status;
+typedef uint32_t mast_id;
+typedef uint32_t mast_name;
+
+/* Four characters as a name, as rtems_build_name makes it; a constant. */
+#define mast_build_name(c1, c2, c3, c4)                                           \
+    ((mast_name)(unsigned char)(c1) << 24 | (mast_name)(unsigned char)(c2) << 16 | \
+     (mast_name)(unsigned char)(c3) << 8 | (mast_name)(unsigned char)(c4))
+
 /*
  * What every call gives back. `value` is 0 unless a call says otherwise. `next` is the task to run:
  * of the ready tasks the most urgent, among equals the one with the lowest number, or 0 if no task
  * is ready. With MAST_INTERNAL_ERROR both are 0.
  */
 typedef struct {
-    uint32_t status;
+    mast_status status;
     uint32_t value;
     uint32_t next;
 } mast_answer;
@@ -118,7 +131,8 @@ typedef struct {
 /*
  * Starts the machine with `slots` semaphore slots (1 to 64) and `count` tasks (1 to 32), whose
  * priorities (1 to 255) `priorities` points to: the first is task 1's. All tasks are ready.
- * `priorities` may be NULL only when `count` is 0; it must not overlap the tables. To start afresh, set all bytes to 0 first.
+ * `priorities` may be NULL only when `count` is 0; it must not overlap the tables. To start afresh,
+ * set all bytes to 0 first.
  *
  *   MAST_INTERNAL_ERROR    the tables are damaged or have the wrong length
  *   MAST_INCORRECT_STATE   already started
@@ -144,7 +158,7 @@ mast_answer mast_start(uint8_t *tables, size_t length, uint32_t slots, const uin
  *   MAST_TOO_MANY          no free slot with a generation below 65535
  *   MAST_SUCCESSFUL        value: the identifier
  */
-mast_answer mast_create(uint8_t *tables, size_t length, uint32_t caller, uint32_t name,
+mast_answer mast_create(uint8_t *tables, size_t length, uint32_t caller, mast_name name,
                         uint32_t count, uint32_t attributes);
 
 /*
@@ -155,7 +169,7 @@ mast_answer mast_create(uint8_t *tables, size_t length, uint32_t caller, uint32_
  *   MAST_INVALID_NAME      name 0, or no live semaphore has it
  *   MAST_SUCCESSFUL        value: the identifier
  */
-mast_answer mast_ident(const uint8_t *tables, size_t length, uint32_t name);
+mast_answer mast_ident(const uint8_t *tables, size_t length, mast_name name);
 
 /*
  * Deletes a semaphore. All its waiters become ready with answer MAST_OBJECT_WAS_DELETED. Not from
@@ -169,7 +183,7 @@ mast_answer mast_ident(const uint8_t *tables, size_t length, uint32_t name);
  *   MAST_RESOURCE_IN_USE   a binary semaphore that has an owner, even if that is the caller
  *   MAST_SUCCESSFUL
  */
-mast_answer mast_delete(uint8_t *tables, size_t length, uint32_t caller, uint32_t id);
+mast_answer mast_delete(uint8_t *tables, size_t length, uint32_t caller, mast_id id);
 
 /*
  * Obtains a semaphore. With a count above 0 the count goes down by one, and a binary semaphore gets
@@ -187,7 +201,7 @@ mast_answer mast_delete(uint8_t *tables, size_t length, uint32_t caller, uint32_
  *   MAST_SUCCESSFUL        the caller has it
  *   MAST_WAITING           the caller waits; mast_task will say how that ends
  */
-mast_answer mast_obtain(uint8_t *tables, size_t length, uint32_t caller, uint32_t id,
+mast_answer mast_obtain(uint8_t *tables, size_t length, uint32_t caller, mast_id id,
                         uint32_t options, uint32_t timeout);
 
 /*
@@ -199,11 +213,11 @@ mast_answer mast_obtain(uint8_t *tables, size_t length, uint32_t caller, uint32_
  *   MAST_INVALID_ID        no such caller
  *   MAST_INCORRECT_STATE   the caller is waiting
  *   MAST_INVALID_ID        no live semaphore has the identifier
- *   MAST_NOT_OWNER_OF_RESOURCE  a binary semaphore that the caller does not own; always for caller 0
- *   MAST_UNSATISFIED       the count is at its maximum: 4294967295, or 1 for a simple binary semaphore
+ *   MAST_NOT_OWNER_OF_RESOURCE  a binary semaphore that the caller does not own; caller 0 owns none
+ *   MAST_UNSATISFIED       the count is at its maximum: 4294967295, or 1 for a simple binary one
  *   MAST_SUCCESSFUL
  */
-mast_answer mast_release(uint8_t *tables, size_t length, uint32_t caller, uint32_t id);
+mast_answer mast_release(uint8_t *tables, size_t length, uint32_t caller, mast_id id);
 
 /*
  * Wakes all waiters of a semaphore with answer MAST_UNSATISFIED. Its count and its owner stay. Also
@@ -215,7 +229,7 @@ mast_answer mast_release(uint8_t *tables, size_t length, uint32_t caller, uint32
  *   MAST_INVALID_ID        no live semaphore has the identifier
  *   MAST_SUCCESSFUL        also if nobody waited
  */
-mast_answer mast_flush(uint8_t *tables, size_t length, uint32_t caller, uint32_t id);
+mast_answer mast_flush(uint8_t *tables, size_t length, uint32_t caller, mast_id id);
 
 /*
  * One tick of the clock, usually from its interrupt. Every wait with a timeout loses one tick; one
@@ -229,8 +243,8 @@ mast_answer mast_tick(uint8_t *tables, size_t length);
 /*
  * A task's answer: MAST_WAITING while it waits, otherwise how its latest wait ended, which is
  * MAST_SUCCESSFUL, MAST_TIMEOUT, MAST_OBJECT_WAS_DELETED or MAST_UNSATISFIED. A task that has never
- * waited has MAST_SUCCESSFUL; an obtain that did not wait leaves the answer as it was. From anywhere.
- * Changes nothing.
+ * waited has MAST_SUCCESSFUL; an obtain that did not wait leaves the answer as it was. From
+ * anywhere. Changes nothing.
  *
  *   MAST_INTERNAL_ERROR    the tables are damaged or have the wrong length
  *   MAST_INVALID_ID        no such task; 0 is none
