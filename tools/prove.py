@@ -9,6 +9,7 @@ import subprocess
 import sys
 
 PROVED = re.compile(r"rt: (\w+) proved \((?:(\d+) s|unchanged)")
+COMPILED = re.compile(r"rt: target/staticlib/lib(\w+)\.a has")
 FAILED = re.compile(r"rt: (\w+ (?:NOT PROVED|proved, and its run FAILED).*)")
 
 
@@ -44,8 +45,9 @@ def progress(lines, log, total):
         elif found := FAILED.match(line):
             idle = False
             tell(found[1])
-        elif line.startswith("rt: target/staticlib/"):
-            tell(f"[{total}/{total}] proved, and compiled for C")
+        elif found := COMPILED.match(line):
+            idle = False
+            tell(f"[{total}/{total}] {found[1]} proved, and compiled for C")
     if idle:
         tell("Nothing has changed since they were proved.")
 
