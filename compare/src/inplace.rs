@@ -1,7 +1,9 @@
 //! The eight calls in place on the lent bytes, without the test for 25.
 
+pub mod agreement;
+
 use crate::call::Answer;
-use crate::layout::WORDS;
+use crate::layout::*;
 use crate::status::*;
 
 /// The lent bytes as words, high byte first.
@@ -27,26 +29,6 @@ pub fn words_mut(bytes: &mut [u8]) -> Option<&mut Words> {
     }
 }
 
-const TASKS: usize = 0;
-const SLOTS: usize = 1;
-
-// Words of a task.
-const PRIORITY_OF: usize = 0;
-const ANSWER: usize = 1;
-const WAITS_ON: usize = 2;
-const TICKS: usize = 3;
-
-// Words of a slot.
-const GENERATION: usize = 0;
-const LIVE: usize = 1;
-const NAME: usize = 2;
-const ATTRIBUTES: usize = 3;
-const COUNT: usize = 4;
-const OWNER: usize = 5;
-const NEST: usize = 6;
-const QUEUED: usize = 7;
-const QUEUE: usize = 8;
-
 fn get(words: &Words, at: usize) -> u32 {
     u32::from_be_bytes(words[at])
 }
@@ -55,21 +37,11 @@ fn set(words: &mut Words, at: usize, number: u32) {
     words[at] = number.to_be_bytes();
 }
 
-/// The first word of task `number`, which is at least 1.
-fn task(number: u32) -> usize {
-    2 + (number as usize - 1) * 4
-}
-
-/// The first word of the slot at `index`, from 0.
-fn slot(index: usize) -> usize {
-    130 + index * 40
-}
-
 /// The most urgent ready task, the lowest number among equals, or 0.
 pub fn next_task(words: &Words) -> u32 {
     let (mut best, mut chosen) = (u32::MAX, 0);
     for number in 1..=get(words, TASKS) {
-        let at = task(number);
+        let at = task_at(number);
         let priority = get(words, at + PRIORITY_OF);
         if get(words, at + ANSWER) != WAITING && priority < best {
             (best, chosen) = (priority, number);
@@ -89,7 +61,7 @@ fn refuse_caller(words: &Words, caller: u32, interrupt_may: bool) -> Option<u32>
     if caller > get(words, TASKS) {
         return Some(INVALID_ID);
     }
-    (get(words, task(caller) + ANSWER) == WAITING).then_some(INCORRECT_STATE)
+    (get(words, task_at(caller) + ANSWER) == WAITING).then_some(INCORRECT_STATE)
 }
 
 /// The first word of the slot whose live semaphore has this identifier.
@@ -98,7 +70,7 @@ fn find(words: &Words, id: u32) -> Option<usize> {
     if number == 0 || number > get(words, SLOTS) {
         return None;
     }
-    let at = slot(number as usize - 1);
+    let at = slot_at(number as usize - 1);
     (get(words, at + LIVE) == 1 && get(words, at + GENERATION) == id >> 16).then_some(at)
 }
 
@@ -111,7 +83,7 @@ fn enter(words: &Words, caller: u32, id: u32, interrupt_may: bool) -> Result<usi
 }
 
 fn wake(words: &mut Words, number: u32, ending: u32) {
-    let at = task(number);
+    let at = task_at(number);
     set(words, at + ANSWER, ending);
     set(words, at + WAITS_ON, 0);
     set(words, at + TICKS, 0);
@@ -140,9 +112,9 @@ fn join_queue(words: &mut Words, at: usize, caller: u32) {
     let queue = at + QUEUE;
     let mut place = length;
     if get(words, at + ATTRIBUTES) & PRIORITY != 0 {
-        let priority = get(words, task(caller) + PRIORITY_OF);
+        let priority = get(words, task_at(caller) + PRIORITY_OF);
         let behind =
-            |&place: &usize| get(words, task(get(words, queue + place)) + PRIORITY_OF) > priority;
+            |&place: &usize| get(words, task_at(get(words, queue + place)) + PRIORITY_OF) > priority;
         place = (0..length).find(behind).unwrap_or(length);
     }
     words.copy_within(queue + place..queue + length, queue + place + 1);
@@ -164,7 +136,7 @@ pub fn start(words: &mut Words, slots: u32, priorities: &[u32]) -> Answer {
     set(words, TASKS, count as u32);
     set(words, SLOTS, slots);
     for (number, &priority) in (1..).zip(priorities) {
-        set(words, task(number) + PRIORITY_OF, priority);
+        set(words, task_at(number) + PRIORITY_OF, priority);
     }
     answer(words, SUCCESSFUL, 0)
 }
@@ -185,12 +157,13 @@ pub fn create(words: &mut Words, caller: u32, name: u32, count: u32, attributes:
         return answer(words, refusal, 0);
     }
     let usable = |&index: &usize| {
-        get(words, slot(index) + LIVE) == 0 && get(words, slot(index) + GENERATION) < LAST_GENERATION
+        get(words, slot_at(index) + LIVE) == 0
+            && get(words, slot_at(index) + GENERATION) < LAST_GENERATION
     };
     let Some(index) = (0..get(words, SLOTS) as usize).find(usable) else {
         return answer(words, TOO_MANY, 0);
     };
-    let at = slot(index);
+    let at = slot_at(index);
     let generation = get(words, at + GENERATION) + 1;
     set(words, at + GENERATION, generation);
     set(words, at + LIVE, 1);
@@ -206,10 +179,10 @@ pub fn create(words: &mut Words, caller: u32, name: u32, count: u32, attributes:
 
 pub fn ident(words: &Words, name: u32) -> Answer {
     // A free slot's name is 0, so with another name only live slots match.
-    let named = |&index: &usize| get(words, slot(index) + NAME) == name;
+    let named = |&index: &usize| get(words, slot_at(index) + NAME) == name;
     match (0..get(words, SLOTS) as usize).find(named) {
         Some(index) if name != 0 => {
-            let generation = get(words, slot(index) + GENERATION);
+            let generation = get(words, slot_at(index) + GENERATION);
             answer(words, SUCCESSFUL, generation << 16 | (index as u32 + 1))
         }
         _ => answer(words, INVALID_NAME, 0),
@@ -256,9 +229,9 @@ pub fn obtain(words: &mut Words, caller: u32, id: u32, options: u32, timeout: u3
         return answer(words, UNSATISFIED, 0);
     }
     join_queue(words, at, caller);
-    set(words, task(caller) + ANSWER, WAITING);
-    set(words, task(caller) + WAITS_ON, id);
-    set(words, task(caller) + TICKS, timeout);
+    set(words, task_at(caller) + ANSWER, WAITING);
+    set(words, task_at(caller) + WAITS_ON, id);
+    set(words, task_at(caller) + TICKS, timeout);
     answer(words, WAITING, 0)
 }
 
@@ -309,7 +282,7 @@ pub fn flush(words: &mut Words, caller: u32, id: u32) -> Answer {
 
 pub fn tick(words: &mut Words) -> Answer {
     for number in 1..=get(words, TASKS) {
-        let at = task(number);
+        let at = task_at(number);
         match get(words, at + TICKS) {
             0 => {}
             1 => time_out(words, number),
@@ -320,8 +293,8 @@ pub fn tick(words: &mut Words) -> Answer {
 }
 
 fn time_out(words: &mut Words, number: u32) {
-    let waited_on = (get(words, task(number) + WAITS_ON) & 0xFFFF) as usize;
-    let at = slot(waited_on - 1);
+    let waited_on = (get(words, task_at(number) + WAITS_ON) & 0xFFFF) as usize;
+    let at = slot_at(waited_on - 1);
     let stands = |&place: &usize| get(words, at + QUEUE + place) == number;
     if let Some(place) = (0..get(words, at + QUEUED) as usize).find(stands) {
         leave_queue(words, at, place);
@@ -333,5 +306,5 @@ pub fn task_answer(words: &Words, number: u32) -> Answer {
     if number == 0 || number > get(words, TASKS) {
         return answer(words, INVALID_ID, 0);
     }
-    answer(words, SUCCESSFUL, get(words, task(number) + ANSWER))
+    answer(words, SUCCESSFUL, get(words, task_at(number) + ANSWER))
 }

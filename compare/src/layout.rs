@@ -9,11 +9,31 @@ pub const WORDS: usize = FIRST_SLOT + MOST_SLOTS * SLOT_WORDS;
 /// Bytes that the caller lends.
 pub const LENGTH: usize = WORDS * 4;
 
-const FIRST_TASK: usize = 2;
-const TASK_WORDS: usize = 4;
-const FIRST_SLOT: usize = FIRST_TASK + MOST_TASKS * TASK_WORDS;
-const SLOT_WORDS: usize = 40;
-const QUEUE: usize = 8;
+/// The words that hold N and S.
+pub const TASKS: usize = 0;
+pub const SLOTS: usize = 1;
+
+pub const FIRST_TASK: usize = 2;
+pub const TASK_WORDS: usize = 4;
+pub const FIRST_SLOT: usize = FIRST_TASK + MOST_TASKS * TASK_WORDS;
+pub const SLOT_WORDS: usize = QUEUE + MOST_TASKS;
+
+// Words of a task.
+pub const PRIORITY_OF: usize = 0;
+pub const ANSWER: usize = 1;
+pub const WAITS_ON: usize = 2;
+pub const TICKS: usize = 3;
+
+// Words of a slot; the queue is the rest of them.
+pub const GENERATION: usize = 0;
+pub const LIVE: usize = 1;
+pub const NAME: usize = 2;
+pub const ATTRIBUTES: usize = 3;
+pub const COUNT: usize = 4;
+pub const OWNER: usize = 5;
+pub const NEST: usize = 6;
+pub const QUEUED: usize = 7;
+pub const QUEUE: usize = 8;
 
 const TASK_FIELDS: [&str; TASK_WORDS] = ["priority", "answer", "identifier waited on", "ticks left"];
 const SLOT_FIELDS: [&str; QUEUE] =
@@ -42,8 +62,8 @@ pub fn slot_at(index: usize) -> usize {
 /// What the word at `index` means; tasks and slots are numbered from 1.
 pub fn word_name(index: usize) -> String {
     match index {
-        0 => "N".into(),
-        1 => "S".into(),
+        TASKS => "N".into(),
+        SLOTS => "S".into(),
         _ if index < FIRST_SLOT => {
             let place = index - FIRST_TASK;
             format!("task {} {}", place / TASK_WORDS + 1, TASK_FIELDS[place % TASK_WORDS])
@@ -69,8 +89,8 @@ pub fn write(machine: &Machine) -> Vec<u8> {
 /// Writes the machine's tables over `LENGTH` bytes.
 pub fn write_into(machine: &Machine, bytes: &mut [u8]) {
     bytes.fill(0);
-    set_word(bytes, 0, machine.tasks.len() as u32);
-    set_word(bytes, 1, machine.slots.len() as u32);
+    set_word(bytes, TASKS, machine.tasks.len() as u32);
+    set_word(bytes, SLOTS, machine.slots.len() as u32);
     for (number, task) in (1..).zip(&machine.tasks) {
         let (answer, id, ticks) = match task.state {
             State::Ready { answer } => (answer, 0, 0),
@@ -80,12 +100,12 @@ pub fn write_into(machine: &Machine, bytes: &mut [u8]) {
     }
     for (index, slot) in machine.slots.iter().enumerate() {
         let at = slot_at(index);
-        set_word(bytes, at, slot.generation);
+        set_word(bytes, at + GENERATION, slot.generation);
         if let Some(live) = &slot.live {
             let length = live.queue.len() as u32;
             let state = [live.count, live.owner, live.nest, length];
-            set_words(bytes, at + 1, &[1, live.name, live.attributes()]);
-            set_words(bytes, at + 4, &state);
+            set_words(bytes, at + LIVE, &[1, live.name, live.attributes()]);
+            set_words(bytes, at + COUNT, &state);
             set_words(bytes, at + QUEUE, &live.queue);
         }
     }
@@ -108,7 +128,7 @@ pub fn read(bytes: &[u8]) -> Option<Machine> {
 }
 
 fn read_shape(bytes: &[u8]) -> Option<Machine> {
-    let (tasks, slots) = (word(bytes, 0) as usize, word(bytes, 1) as usize);
+    let (tasks, slots) = (word(bytes, TASKS) as usize, word(bytes, SLOTS) as usize);
     if tasks > MOST_TASKS || slots > MOST_SLOTS {
         return None;
     }
@@ -118,9 +138,9 @@ fn read_shape(bytes: &[u8]) -> Option<Machine> {
 }
 
 fn read_task(bytes: &[u8], at: usize) -> Task {
-    let (priority, answer) = (word(bytes, at), word(bytes, at + 1));
+    let (priority, answer) = (word(bytes, at + PRIORITY_OF), word(bytes, at + ANSWER));
     let state = if answer == WAITING {
-        State::Waiting { id: word(bytes, at + 2), ticks: word(bytes, at + 3) }
+        State::Waiting { id: word(bytes, at + WAITS_ON), ticks: word(bytes, at + TICKS) }
     } else {
         State::Ready { answer }
     };
@@ -128,8 +148,8 @@ fn read_task(bytes: &[u8], at: usize) -> Task {
 }
 
 fn read_slot(bytes: &[u8], at: usize) -> Option<Slot> {
-    let generation = word(bytes, at);
-    match word(bytes, at + 1) {
+    let generation = word(bytes, at + GENERATION);
+    match word(bytes, at + LIVE) {
         0 => Some(Slot { generation, live: None }),
         1 => Some(Slot { generation, live: Some(read_semaphore(bytes, at)?) }),
         _ => None,
@@ -137,18 +157,18 @@ fn read_slot(bytes: &[u8], at: usize) -> Option<Slot> {
 }
 
 fn read_semaphore(bytes: &[u8], at: usize) -> Option<Semaphore> {
-    let (class, order) = split_attributes(word(bytes, at + 3))?;
-    let length = word(bytes, at + 7) as usize;
+    let (class, order) = split_attributes(word(bytes, at + ATTRIBUTES))?;
+    let length = word(bytes, at + QUEUED) as usize;
     if length > MOST_TASKS {
         return None;
     }
     Some(Semaphore {
-        name: word(bytes, at + 2),
+        name: word(bytes, at + NAME),
         class,
         order,
-        count: word(bytes, at + 4),
-        owner: word(bytes, at + 5),
-        nest: word(bytes, at + 6),
+        count: word(bytes, at + COUNT),
+        owner: word(bytes, at + OWNER),
+        nest: word(bytes, at + NEST),
         queue: (0..length).map(|place| word(bytes, at + QUEUE + place)).collect(),
     })
 }

@@ -1,5 +1,7 @@
 //! The semaphore manager of document 01 over structs of its own.
 
+mod agree;
+
 use crate::call::{Answer, Call};
 use crate::status::*;
 

@@ -1,8 +1,10 @@
 //! The session: lines in, `status value next` out, from an unstarted machine.
 
+pub mod lines;
+
 use crate::call::{Answer, Call};
+use crate::inplace::agreement::serve;
 use crate::inplace::{words_mut, Words};
-use crate::intest::serve;
 use crate::layout::LENGTH;
 
 /// The longest line, without its newline.

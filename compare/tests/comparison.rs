@@ -1,9 +1,9 @@
 //! The comparison itself, with the in-place variant in the library's stead.
 
 use compare::call::{Answer, Call, Manager};
-use compare::intest::Tested;
-use compare::lent::{Comparison, Difference};
-use compare::{damage, sequence};
+use compare::fuzz::comparison::{Comparison, Difference};
+use compare::fuzz::{damage, sequence};
+use compare::inplace::agreement::Tested;
 
 fn random_parts(comparison: &mut Comparison, sequences: u64) -> Result<(), Box<Difference>> {
     for seed in 0..sequences {

@@ -1,17 +1,17 @@
 //! Document 01's cases and the agreement of its tables, on this project's own code.
 
 use compare::call::{Answer, Call, Manager};
-use compare::intest::{agrees, Tested};
+use compare::inplace::agreement::{agrees, Tested};
 use compare::layout::{self, read, set_word, slot_at, task_at, word, Model, LENGTH, WORDS};
 
 #[test]
 fn paper_cases_hold_for_the_model() {
-    compare::cases::run(&mut Model).unwrap();
+    compare::fuzz::cases::run(&mut Model).unwrap();
 }
 
 #[test]
 fn paper_cases_hold_in_place() {
-    compare::cases::run(&mut Tested).unwrap();
+    compare::fuzz::cases::run(&mut Tested).unwrap();
 }
 
 /// Task 1 owns slot 1 (binary, PRIORITY) and waits on slot 2 (counting); tasks 2 and 3 queue at slot 1.

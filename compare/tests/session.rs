@@ -1,8 +1,8 @@
 //! The session program's rules, on this project's own parser and printer.
 
-use compare::lines::{line_of, random_session};
+use compare::fuzz::rng::Rng;
 use compare::model::Machine;
-use compare::rng::Rng;
+use compare::session::lines::{line_of, random_session};
 use compare::session::{parse_line, print_answer, run_session, Session};
 
 fn session(input: &[u8], wanted: &str) {

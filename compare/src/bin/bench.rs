@@ -5,8 +5,8 @@ use std::time::Instant;
 
 use compare::call::{Answer, Call, Manager};
 use compare::ffi::Library;
-use compare::intest::{Tested, Untested};
-use compare::workload::{self, Workload};
+use compare::fuzz::workload::{self, Workload};
+use compare::inplace::agreement::{Tested, Untested};
 
 /// Few enough that most replays of a busy machine are not interrupted.
 const CALLS: usize = 2_000;

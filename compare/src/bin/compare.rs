@@ -5,8 +5,8 @@ use std::process::ExitCode;
 use std::time::{Duration, Instant};
 
 use compare::ffi::Library;
-use compare::lent::{Comparison, Difference};
-use compare::{cases, damage, sequence};
+use compare::fuzz::comparison::{Comparison, Difference};
+use compare::fuzz::{cases, damage, sequence};
 
 /// Sequences that every run makes, so that all that has to occur does.
 const LEAST_SEQUENCES: u64 = 300;

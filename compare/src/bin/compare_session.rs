@@ -7,8 +7,8 @@ use std::sync::mpsc;
 use std::thread;
 use std::time::{Duration, Instant};
 
-use compare::lines::random_session;
-use compare::rng::Rng;
+use compare::fuzz::rng::Rng;
+use compare::session::lines::random_session;
 use compare::session::run_session;
 
 const USAGE: &str = "usage: compare_session PROGRAM [SECONDS [SEED]]";

@@ -4,7 +4,7 @@ use std::env;
 use std::io::{self, Write};
 use std::process::ExitCode;
 
-use compare::lines::{random_session, replay_of_ticks};
+use compare::session::lines::{random_session, replay_of_ticks};
 
 const USAGE: &str = "usage: make_session random LINES SEED | make_session ticks LINES";
 

@@ -1,8 +1,8 @@
 //! The cases that document 01 names, run on any manager.
 
 use crate::call::{Answer, Call, Manager};
+use crate::fuzz::lent::Lent;
 use crate::layout::{self, LENGTH};
-use crate::lent::Lent;
 
 /// The tables of one case, and the first answer that was not the paper's.
 struct Case<'a> {

@@ -1,8 +1,8 @@
 //! Random calls, weighted so that what matters really occurs.
 
 use crate::call::Call;
+use crate::fuzz::rng::Rng;
 use crate::model::{identifier, Class, Machine, Semaphore};
-use crate::rng::Rng;
 use crate::status::*;
 
 /// How one random sequence is drawn.

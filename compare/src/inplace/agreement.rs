@@ -2,6 +2,7 @@
 
 use crate::call::{Answer, Call, Manager};
 use crate::inplace::{self, words, words_mut, Words};
+use crate::layout::*;
 use crate::status::*;
 
 /// Whether the lent bytes are tables that agree.
@@ -10,25 +11,25 @@ pub fn agrees(bytes: &[u8]) -> bool {
 }
 
 fn words_agree(words: &Words) -> bool {
-    let (tasks, slots) = (get(words, 0), get(words, 1));
+    let (tasks, slots) = (get(words, TASKS), get(words, SLOTS));
     if tasks == 0 {
-        return is_zero(&words[1..]);
+        return is_zero(&words[SLOTS..]);
     }
     if tasks > MOST_TASKS as u32 || slots == 0 || slots > MOST_SLOTS as u32 {
         return false;
     }
     let Some(waiting) = waiting_tasks(words, tasks) else { return false };
-    let (task_words, slot_words) = (&words[2..130], &words[130..]);
+    let (task_words, slot_words) = (&words[FIRST_TASK..FIRST_SLOT], &words[FIRST_SLOT..]);
     let mut queued = 0;
-    for (index, slot) in slot_words.chunks_exact(40).take(slots as usize).enumerate() {
+    for (index, slot) in slot_words.chunks_exact(SLOT_WORDS).take(slots as usize).enumerate() {
         match queued_tasks(task_words, tasks, index, slot) {
             Some(here) if here & queued == 0 => queued |= here,
             _ => return false,
         }
     }
     queued == waiting
-        && is_zero(&task_words[tasks as usize * 4..])
-        && is_zero(&slot_words[slots as usize * 40..])
+        && is_zero(&task_words[tasks as usize * TASK_WORDS..])
+        && is_zero(&slot_words[slots as usize * SLOT_WORDS..])
 }
 
 fn get(words: &[[u8; 4]], at: usize) -> u32 {
@@ -43,13 +44,14 @@ fn is_zero(words: &[[u8; 4]]) -> bool {
 /// The waiting tasks as bits, or nothing if a task is outside its limits.
 fn waiting_tasks(words: &Words, tasks: u32) -> Option<u32> {
     let mut waiting = 0;
-    for (number, task) in words[2..130].chunks_exact(4).take(tasks as usize).enumerate() {
-        if !(MOST_URGENT..=LEAST_URGENT).contains(&get(task, 0)) {
+    let task_words = words[FIRST_TASK..FIRST_SLOT].chunks_exact(TASK_WORDS);
+    for (number, task) in task_words.take(tasks as usize).enumerate() {
+        if !(MOST_URGENT..=LEAST_URGENT).contains(&get(task, PRIORITY_OF)) {
             return None;
         }
-        match get(task, 1) {
+        match get(task, ANSWER) {
             WAITING => waiting |= 1 << number,
-            SUCCESSFUL | TIMEOUT | OBJECT_WAS_DELETED | UNSATISFIED if is_zero(&task[2..]) => {}
+            SUCCESSFUL | TIMEOUT | OBJECT_WAS_DELETED | UNSATISFIED if is_zero(&task[WAITS_ON..]) => {}
             _ => return None,
         }
     }
@@ -58,21 +60,25 @@ fn waiting_tasks(words: &Words, tasks: u32) -> Option<u32> {
 
 /// The tasks queued at a slot as bits, or nothing if the slot breaks a rule.
 fn queued_tasks(task_words: &[[u8; 4]], tasks: u32, index: usize, slot: &[[u8; 4]]) -> Option<u32> {
-    let (generation, live) = (get(slot, 0), get(slot, 1));
+    let (generation, live) = (get(slot, GENERATION), get(slot, LIVE));
     if generation > LAST_GENERATION || live > 1 {
         return None;
     }
     if live == 0 {
-        return is_zero(&slot[2..]).then_some(0);
+        return is_zero(&slot[NAME..]).then_some(0);
     }
-    let length = get(slot, 7) as usize;
-    if generation == 0 || get(slot, 2) == 0 || length > MOST_TASKS || !is_zero(&slot[8 + length..]) {
+    let length = get(slot, QUEUED) as usize;
+    if generation == 0
+        || get(slot, NAME) == 0
+        || length > MOST_TASKS
+        || !is_zero(&slot[QUEUE + length..])
+    {
         return None;
     }
     let id = generation << 16 | (index as u32 + 1);
-    let attributes = get(slot, 3);
-    let queued = waiters_on(task_words, tasks, id, attributes, &slot[8..8 + length])?;
-    let state = [get(slot, 4), get(slot, 5), get(slot, 6)];
+    let attributes = get(slot, ATTRIBUTES);
+    let queued = waiters_on(task_words, tasks, id, attributes, &slot[QUEUE..QUEUE + length])?;
+    let state = [get(slot, COUNT), get(slot, OWNER), get(slot, NEST)];
     holds_together(tasks, attributes, state, queued).then_some(queued)
 }
 
@@ -90,11 +96,11 @@ fn waiters_on(
         if number == 0 || number > tasks {
             return None;
         }
-        let task = &task_words[(number as usize - 1) * 4..][..4];
+        let task = &task_words[(number as usize - 1) * TASK_WORDS..][..TASK_WORDS];
         let bit = 1 << (number - 1);
-        let priority = get(task, 0);
+        let priority = get(task, PRIORITY_OF);
         let in_order = attributes & PRIORITY == 0 || last <= priority;
-        if queued & bit != 0 || get(task, 1) != WAITING || get(task, 2) != id || !in_order {
+        if queued & bit != 0 || get(task, ANSWER) != WAITING || get(task, WAITS_ON) != id || !in_order {
             return None;
         }
         queued |= bit;

@@ -1,11 +1,11 @@
 //! Sessions as text: random ones with broken lines of every kind, and long replays.
 
 use crate::call::Call;
-use crate::generate::Plan;
+use crate::fuzz::generate::Plan;
+use crate::fuzz::rng::Rng;
+use crate::fuzz::workload;
 use crate::model::Machine;
-use crate::rng::Rng;
 use crate::session::{parse_line, LONGEST_LINE};
-use crate::workload;
 
 /// The line that says this call; `task` has none.
 pub fn line_of(call: &Call) -> Option<String> {

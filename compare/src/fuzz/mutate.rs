@@ -1,8 +1,9 @@
 //! Random damage to agreeing tables, some of which leaves them in agreement.
 
-use crate::layout::{set_word, slot_at, task_at, word, word_name, WORDS};
+use crate::fuzz::rng::Rng;
+use crate::layout::*;
 use crate::model::{identifier, Machine};
-use crate::rng::Rng;
+use crate::status::*;
 
 /// Does one random damage and says which.
 pub fn mutate(rng: &mut Rng, machine: &Machine, bytes: &mut [u8]) -> String {
@@ -24,9 +25,9 @@ fn draw_word(rng: &mut Rng, machine: &Machine) -> usize {
         return rng.below(WORDS);
     }
     if rng.chance(35) {
-        return task_at(rng.between(1, machine.tasks.len() as u32)) + rng.below(4);
+        return task_at(rng.between(1, machine.tasks.len() as u32)) + rng.below(TASK_WORDS);
     }
-    let reach = if rng.chance(80) { 12 } else { 40 };
+    let reach = if rng.chance(80) { QUEUE + 4 } else { SLOT_WORDS };
     slot_at(rng.below(machine.slots.len())) + rng.below(reach)
 }
 
@@ -35,6 +36,11 @@ fn draw_live(rng: &mut Rng, machine: &Machine) -> Option<usize> {
     let is_live = |index: &usize| machine.slots[*index].live.is_some();
     let live: Vec<usize> = (0..machine.slots.len()).filter(is_live).collect();
     (!live.is_empty()).then(|| rng.pick(&live))
+}
+
+/// A number from 1 to 32, as tasks and queue lengths have.
+fn is_task_number(number: u32) -> bool {
+    (1..=MOST_TASKS as u32).contains(&number)
 }
 
 fn flip_bit(rng: &mut Rng, bytes: &mut [u8]) -> String {
@@ -47,7 +53,7 @@ fn set_some_word(rng: &mut Rng, machine: &Machine, bytes: &mut [u8]) -> String {
     let at = draw_word(rng, machine);
     let any = rng.word();
     let small = rng.between(0, 70);
-    let value = rng.pick(&[0, 1, small, small, 100, 65536, 65537, u32::MAX, any]);
+    let value = rng.pick(&[0, 1, small, small, WAITING, 65536, 65537, u32::MAX, any]);
     set_word(bytes, at, value);
     format!("{} set to {value}", word_name(at))
 }
@@ -55,7 +61,7 @@ fn set_some_word(rng: &mut Rng, machine: &Machine, bytes: &mut [u8]) -> String {
 fn swap_words(rng: &mut Rng, machine: &Machine, bytes: &mut [u8]) -> String {
     let first = draw_word(rng, machine);
     // Neighbours, as in a queue, or the same field of a neighbour.
-    let second = (first + rng.pick(&[1, 1, 2, 4, 40])).min(WORDS - 1);
+    let second = (first + rng.pick(&[1, 1, 2, TASK_WORDS, SLOT_WORDS])).min(WORDS - 1);
     let (one, other) = (word(bytes, first), word(bytes, second));
     set_word(bytes, first, other);
     set_word(bytes, second, one);
@@ -64,19 +70,19 @@ fn swap_words(rng: &mut Rng, machine: &Machine, bytes: &mut [u8]) -> String {
 
 fn copy_word(rng: &mut Rng, machine: &Machine, bytes: &mut [u8]) -> String {
     let from = draw_word(rng, machine);
-    let to = (from + rng.pick(&[1, 4, 8, 40, 80])) % WORDS;
+    let to = (from + rng.pick(&[1, TASK_WORDS, 2 * TASK_WORDS, SLOT_WORDS, 2 * SLOT_WORDS])) % WORDS;
     let value = word(bytes, from);
     set_word(bytes, to, value);
     format!("{} copied to {}", word_name(from), word_name(to))
 }
 
 fn alter_counts(rng: &mut Rng, bytes: &mut [u8]) -> String {
-    let at = rng.below(2);
+    let at = rng.pick(&[TASKS, SLOTS]);
     let was = word(bytes, at);
     let value = rng.pick(&[was.wrapping_add(1), was.wrapping_sub(1)]);
     set_word(bytes, at, value);
-    if at == 0 && rng.chance(50) && (1..=32).contains(&value) {
-        set_word(bytes, task_at(value), 1);
+    if at == TASKS && rng.chance(50) && is_task_number(value) {
+        set_word(bytes, task_at(value) + PRIORITY_OF, MOST_URGENT);
     }
     format!("{} set to {value}", word_name(at))
 }
@@ -85,17 +91,17 @@ fn alter_counts(rng: &mut Rng, bytes: &mut [u8]) -> String {
 fn drop_waiter(rng: &mut Rng, machine: &Machine, bytes: &mut [u8]) -> String {
     let Some(index) = draw_live(rng, machine) else { return "nothing".into() };
     let at = slot_at(index);
-    let length = word(bytes, at + 7);
-    if !(1..=32).contains(&length) {
+    let length = word(bytes, at + QUEUED);
+    if !is_task_number(length) {
         return "nothing".into();
     }
-    let last = at + 7 + length as usize;
+    let last = at + QUEUE + length as usize - 1;
     let task = word(bytes, last);
-    set_word(bytes, at + 7, length - 1);
+    set_word(bytes, at + QUEUED, length - 1);
     set_word(bytes, last, 0);
-    let readied = rng.chance(60) && (1..=32).contains(&task);
+    let readied = rng.chance(60) && is_task_number(task);
     if readied {
-        (1..4).for_each(|field| set_word(bytes, task_at(task) + field, 0));
+        (ANSWER..TASK_WORDS).for_each(|field| set_word(bytes, task_at(task) + field, 0));
     }
     format!("task {task} out of the queue of slot {}, made ready: {readied}", index + 1)
 }
@@ -103,8 +109,8 @@ fn drop_waiter(rng: &mut Rng, machine: &Machine, bytes: &mut [u8]) -> String {
 fn free_slot(rng: &mut Rng, machine: &Machine, bytes: &mut [u8]) -> String {
     let Some(index) = draw_live(rng, machine) else { return "nothing".into() };
     let at = slot_at(index);
-    let reach = rng.pick(&[2, 8, 40]);
-    (1..reach).for_each(|field| set_word(bytes, at + field, 0));
+    let reach = rng.pick(&[NAME, QUEUE, SLOT_WORDS]);
+    (LIVE..reach).for_each(|field| set_word(bytes, at + field, 0));
     format!("words 1 to {} of slot {} zeroed", reach - 1, index + 1)
 }
 
@@ -112,17 +118,21 @@ fn free_slot(rng: &mut Rng, machine: &Machine, bytes: &mut [u8]) -> String {
 fn add_waiter(rng: &mut Rng, machine: &Machine, bytes: &mut [u8]) -> String {
     let Some(index) = draw_live(rng, machine) else { return "nothing".into() };
     let at = slot_at(index);
-    let length = word(bytes, at + 7);
-    if length >= 32 {
+    let length = word(bytes, at + QUEUED);
+    if length >= MOST_TASKS as u32 {
         return "nothing".into();
     }
     let task = rng.between(1, machine.tasks.len() as u32);
-    set_word(bytes, at + 7, length + 1);
-    set_word(bytes, at + 8 + length as usize, task);
+    set_word(bytes, at + QUEUED, length + 1);
+    set_word(bytes, at + QUEUE + length as usize, task);
     let waits = rng.chance(80);
     if waits {
-        set_word(bytes, task_at(task) + 1, 100);
-        set_word(bytes, task_at(task) + 2, identifier(word(bytes, at) & 0xFFFF, index));
+        set_word(bytes, task_at(task) + ANSWER, WAITING);
+        set_word(
+            bytes,
+            task_at(task) + WAITS_ON,
+            identifier(word(bytes, at + GENERATION) & 0xFFFF, index),
+        );
     }
     format!("task {task} put in the queue of slot {}, made to wait: {waits}", index + 1)
 }

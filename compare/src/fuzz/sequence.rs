@@ -1,10 +1,11 @@
 //! Random sequences of calls, every answer and every byte compared.
 
-use crate::generate::Plan;
-use crate::layout::{self, set_word, slot_at, task_at};
-use crate::lent::{Comparison, Difference, Lent, Place};
+use crate::fuzz::comparison::{Comparison, Difference, Place};
+use crate::fuzz::generate::Plan;
+use crate::fuzz::lent::Lent;
+use crate::fuzz::rng::Rng;
+use crate::layout::{self, *};
 use crate::model::{identifier, Class, Machine, State};
-use crate::rng::Rng;
 use crate::status::*;
 
 /// Runs one sequence; gives back the machine that it ended in.
@@ -43,9 +44,9 @@ fn edit(rng: &mut Rng, machine: &Machine, bytes: &mut [u8]) {
         2 => edit_generation(rng, machine, index, bytes),
         3 => {
             // All free slots at once, so that creates soon run out of them.
-            let near_end = rng.between(65533, 65535);
+            let near_end = rng.between(LAST_GENERATION - 2, LAST_GENERATION);
             for index in (0..machine.slots.len()).filter(|&index| machine.slots[index].live.is_none()) {
-                set_word(bytes, slot_at(index), near_end);
+                set_word(bytes, slot_at(index) + GENERATION, near_end);
             }
         }
         _ => edit_task(rng, machine, bytes),
@@ -63,19 +64,19 @@ fn edit_semaphore(rng: &mut Rng, machine: &Machine, index: usize, bytes: &mut [u
     let Some(live) = &machine.slots[index].live else { return };
     let number = rng.pick(&[u32::MAX, u32::MAX, u32::MAX - 1, 1, 2, 1 << 16, 1 << 31]);
     if live.owner != 0 {
-        set_word(bytes, slot_at(index) + 6, number);
+        set_word(bytes, slot_at(index) + NEST, number);
     } else if live.class == Class::Counting && live.queue.is_empty() {
-        set_word(bytes, slot_at(index) + 4, number);
+        set_word(bytes, slot_at(index) + COUNT, number);
     }
 }
 
 /// The generation of one slot, with the identifiers its waiters wait on.
 fn edit_generation(rng: &mut Rng, machine: &Machine, index: usize, bytes: &mut [u8]) {
-    let generation = rng.pick(&[65535, 65534, 65533, 255, 256]);
-    set_word(bytes, slot_at(index), generation);
+    let generation = rng.pick(&[LAST_GENERATION, LAST_GENERATION - 1, LAST_GENERATION - 2, 255, 256]);
+    set_word(bytes, slot_at(index) + GENERATION, generation);
     if let Some(live) = &machine.slots[index].live {
         for &waiter in &live.queue {
-            set_word(bytes, task_at(waiter) + 2, identifier(generation, index));
+            set_word(bytes, task_at(waiter) + WAITS_ON, identifier(generation, index));
         }
     }
 }
@@ -85,11 +86,11 @@ fn edit_task(rng: &mut Rng, machine: &Machine, bytes: &mut [u8]) {
     let number = rng.between(1, machine.tasks.len() as u32);
     let at = task_at(number);
     match machine.tasks[number as usize - 1].state {
-        State::Waiting { .. } => set_word(bytes, at + 3, rng.pick(&[0, 1, 1, 2, 256, u32::MAX])),
+        State::Waiting { .. } => set_word(bytes, at + TICKS, rng.pick(&[0, 1, 1, 2, 256, u32::MAX])),
         State::Ready { .. } => {
             let endings = [SUCCESSFUL, TIMEOUT, OBJECT_WAS_DELETED, UNSATISFIED];
-            set_word(bytes, at + 1, rng.pick(&endings));
-            set_word(bytes, at, rng.between(MOST_URGENT, LEAST_URGENT));
+            set_word(bytes, at + ANSWER, rng.pick(&endings));
+            set_word(bytes, at + PRIORITY_OF, rng.between(MOST_URGENT, LEAST_URGENT));
         }
     }
 }

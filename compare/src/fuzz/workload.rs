@@ -1,10 +1,10 @@
 //! Recorded sequences of calls, for measuring.
 
 use crate::call::Call;
-use crate::generate::Plan;
+use crate::fuzz::generate::Plan;
+use crate::fuzz::rng::Rng;
 use crate::layout;
 use crate::model::Machine;
-use crate::rng::Rng;
 
 /// Tables to begin with, and the calls to make on them one after the other.
 pub struct Workload {

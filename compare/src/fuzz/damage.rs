@@ -1,12 +1,13 @@
 //! Damaged tables: 25 and nothing changed, or served, as this project's own code does.
 
 use crate::call::{Answer, Call, Manager, KINDS};
-use crate::generate::Plan;
-use crate::layout::{self, set_word, slot_at, task_at, word, word_name, Model, LENGTH, WORDS};
-use crate::lent::{Comparison, Difference, Lent, Place};
+use crate::fuzz::comparison::{Comparison, Difference, Place};
+use crate::fuzz::generate::Plan;
+use crate::fuzz::lent::Lent;
+use crate::fuzz::mutate::mutate;
+use crate::fuzz::rng::Rng;
+use crate::layout::{self, *};
 use crate::model::Machine;
-use crate::mutate::mutate;
-use crate::rng::Rng;
 
 type Compared = Result<(), Box<Difference>>;
 
@@ -149,8 +150,8 @@ fn random_bytes(comparison: &mut Comparison, seed: u64, rng: &mut Rng, machine: 
     let mut bytes: Vec<u8> =
         (0..length).map(|at| if words && at % 4 != 3 { 0 } else { rng.word() as u8 }).collect();
     if words && length == LENGTH {
-        set_word(&mut bytes, 0, machine.tasks.len() as u32);
-        set_word(&mut bytes, 1, machine.slots.len() as u32);
+        set_word(&mut bytes, TASKS, machine.tasks.len() as u32);
+        set_word(&mut bytes, SLOTS, machine.slots.len() as u32);
     }
     let place = Place { part: "random bytes", seed, step: 0 };
     let mut lent = Lent::new(&bytes, rng.below(4));
