@@ -33,7 +33,8 @@ fn better(best: Best, q: usize, v: Task) -> Best
 }
 
 // The next task of a list of records of any length, as the core chooses it; tasks are counted from 1.
-pub fn next_task(tasks: &[Task]) -> usize
+#[no_mangle]
+pub extern "C" fn mast_next_task(tasks: &[Task]) -> usize
     ensures { λ r. ⌜ r ≡ next (withTasks unstarted (now (tasks .entry))) ⌝ }
 {
     let mut best = Best {
@@ -62,7 +63,8 @@ fn readied(v: Task, answer: u32) -> Task
 }
 
 // One task is woken: its record alone changes.
-pub fn wake(task: &mut Task, answer: u32)
+#[no_mangle]
+pub extern "C" fn mast_wake_task(task: &mut Task, answer: u32)
     ensures { λ _. ⌜ now (task .exit) ≡ readied (now (task .entry)) answer ⌝ }
 {
     let v = *task;

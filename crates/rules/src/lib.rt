@@ -51,6 +51,7 @@ pub const MAX_NUMBER: u32 = 4294967295;
 pub const GENERATION_UNIT: u32 = 65536;
 
 // A task: ready or waiting. Its answer is 100 exactly while it waits, else the ending of its latest wait.
+#[repr(C)]
 pub struct Task {
     pub priority: u32,
     pub answer: u32,

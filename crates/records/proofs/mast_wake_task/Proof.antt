@@ -1,4 +1,4 @@
--- `records::wake` meets its contract: a walk of its MIR, by hand. The borrow is opened, the record is read and passed to `readied`, what that returns is stored over it, and the borrow is closed at it.
+-- `records::mast_wake_task` meets its contract: a walk of its MIR, by hand. The borrow is opened, the record is read and passed to `readied`, what that returns is stored over it, and the borrow is closed at it.
 -- All that the proof knows of `readied` is that it meets its contract. A task's record is plain data: what it owns is had for nothing, from that its fields fit.
 -- Assumes nothing.
 use mathlib.Core.Path.{_≡_, refl}
@@ -46,10 +46,10 @@ use Rattle.records.proofs.readied as ready
 use Rattle.records.proofs.readied.Symbol as ready-def
 use Rattle.records.proofs.readied.Symbol.{name as #records·readied}
 use Rattle.records.proofs.readied.Met as ready-thm
-use Rattle.records.proofs.wake.Key.{name as #records·wake}
-use Rattle.records.proofs.wake as wake
-use Rattle.records.proofs.wake.Statement as stated
-use Rattle.records.proofs.wake.Code as code
+use Rattle.records.proofs.mast_wake_task.Key.{name as #records·mast-wake-task}
+use Rattle.records.proofs.mast_wake_task as wake
+use Rattle.records.proofs.mast_wake_task.Statement as stated
+use Rattle.records.proofs.mast_wake_task.Code as code
 
 abbrev R : RattleType
 R = T.the-row
@@ -134,10 +134,10 @@ wake-meets 𝓤 H A W at-mem run 𝓣 known =
     walk-meets 𝓤 H A wake.ended stayed W (goes 𝓤 H A W at-mem run) (wake.clauses 𝓤 H A at-mem run) (WpFn 𝓤 H (𝓣 .C) (𝓣 .Λ) code.function) (WpFn-mono 𝓤 H (W .laws) 𝓣 code.function)
     (wake-walks 𝓤 H A W at-mem run (𝓣 .C) (𝓣 .Λ) (fmOf 𝓤 H (W .laws) 𝓣) known)
 
-pub wake-spec : {M : Type 1} → stated.statement M
+pub mast-wake-task-spec : {M : Type 1} → stated.statement M
 unfolding code.routine tablesOf
-wake-spec 𝓤 H 𝓜 𝓖 𝓡 =
+mast-wake-task-spec 𝓤 H 𝓜 𝓖 𝓡 =
     entered 𝓤 H (tripleOf 𝓤 H (𝓖 .A) wake.signature (wake.spec 𝓤 H (𝓖 .A) (𝓜 .mem) (𝓡 .run)))
-    (tables 𝓤 H 𝓜 𝓡 code.env .C) (tables 𝓤 H 𝓜 𝓡 code.env .Λ) #records·wake code.function (code.unfolded 𝓤 H 𝓜 𝓡)
+    (tables 𝓤 H 𝓜 𝓡 code.env .C) (tables 𝓤 H 𝓜 𝓡 code.env .Λ) #records·mast-wake-task code.function (code.unfolded 𝓤 H 𝓜 𝓡)
     (wake-meets 𝓤 H (𝓖 .A) (givenOf 𝓤 H 𝓜 𝓖) (𝓜 .mem) (𝓡 .run) (tablesOf 𝓤 H 𝓜 (tables 𝓤 H 𝓜 𝓡 code.env))
     (cited 𝓤 H (Ready 𝓤 H (𝓖 .A) (𝓜 .mem) (𝓡 .run)) 𝓜 𝓡 code.env #records·readied ready-def.routine code.calls-records·readied (ready-thm.met 𝓤 H 𝓜 𝓖 𝓡)))

@@ -1,4 +1,4 @@
--- `records::next_task` meets its contract: a walk of its MIR, by hand. Each turn of the loop looks into the lent list, copies one record out of it and passes it to `better`.
+-- `records::mast_next_task` meets its contract: a walk of its MIR, by hand. Each turn of the loop looks into the lent list, copies one record out of it and passes it to `better`.
 -- All that the proof knows of `better` is that it meets its contract. The invariant: the look at what is left of the list, from the best so far, gives the next task.
 -- Assumes nothing.
 use mathlib.Core.Path.{_≡_, refl, sym, _∙_, ap, subst}
@@ -63,11 +63,11 @@ use Rattle.records.proofs.better as better
 use Rattle.records.proofs.better.Symbol as better-def
 use Rattle.records.proofs.better.Symbol.{name as #records·better}
 use Rattle.records.proofs.better.Met as better-thm
-use Rattle.records.proofs.next_task.Key.{name as #records·next-task}
-use Rattle.records.proofs.next_task as next-task
-use Rattle.records.proofs.next_task.Statement as stated
-use Rattle.records.proofs.next_task.Code as code
-use Rattle.records.proofs.next_task.Code.Mir as pieces
+use Rattle.records.proofs.mast_next_task.Key.{name as #records·mast-next-task}
+use Rattle.records.proofs.mast_next_task as next-task
+use Rattle.records.proofs.mast_next_task.Statement as stated
+use Rattle.records.proofs.mast_next_task.Code as code
+use Rattle.records.proofs.mast_next_task.Code.Mir as pieces
 
 abbrev R : RattleType
 R = T.the-row
@@ -281,10 +281,10 @@ next-task-meets 𝓤 H A W at-mem run 𝓣 known =
     walk-meets 𝓤 H A next-task.ended stayed W (goes-dropped 𝓤 H A W 1 (shrSlice 0 tt (λ _. R)) yes (λ κs x f. refl), tt) (next-task.clauses 𝓤 H A at-mem run)
     (WpFn 𝓤 H (𝓣 .C) (𝓣 .Λ) code.function) (WpFn-mono 𝓤 H (W .laws) 𝓣 code.function) (next-task-walks 𝓤 H A W at-mem run 𝓣 known)
 
-pub next-task-spec : {M : Type 1} → stated.statement M
+pub mast-next-task-spec : {M : Type 1} → stated.statement M
 unfolding code.routine tablesOf
-next-task-spec 𝓤 H 𝓜 𝓖 𝓡 =
+mast-next-task-spec 𝓤 H 𝓜 𝓖 𝓡 =
     entered 𝓤 H (tripleOf 𝓤 H (𝓖 .A) next-task.signature (next-task.spec 𝓤 H (𝓖 .A) (𝓜 .mem) (𝓡 .run)))
-    (tables 𝓤 H 𝓜 𝓡 code.env .C) (tables 𝓤 H 𝓜 𝓡 code.env .Λ) #records·next-task code.function (code.unfolded 𝓤 H 𝓜 𝓡)
+    (tables 𝓤 H 𝓜 𝓡 code.env .C) (tables 𝓤 H 𝓜 𝓡 code.env .Λ) #records·mast-next-task code.function (code.unfolded 𝓤 H 𝓜 𝓡)
     (next-task-meets 𝓤 H (𝓖 .A) (givenOf 𝓤 H 𝓜 𝓖) (𝓜 .mem) (𝓡 .run) (tablesOf 𝓤 H 𝓜 (tables 𝓤 H 𝓜 𝓡 code.env))
     (cited 𝓤 H (Better 𝓤 H (𝓖 .A) (𝓜 .mem) (𝓡 .run)) 𝓜 𝓡 code.env #records·better better-def.routine code.calls-records·better (better-thm.met 𝓤 H 𝓜 𝓖 𝓡)))
