@@ -1,5 +1,6 @@
--- `records::mast_next_task` meets its contract: a walk of its MIR, by hand. Each turn looks into the lent list, copies one record out of it and passes it to `better`.
--- All that the proof knows of `better` is that it meets its contract. The invariant: the look at what is left of the list, from the best so far, gives the next task.
+-- `records::mast_next_task` meets its contract: a walk of its MIR, by hand. Each turn looks into the lent list, copies one record out of it
+-- and passes it to `better`, of which all that the proof knows is that it meets its contract.
+-- The invariant: the look at what is left of the list, from the best so far, gives the next task.
 -- Assumes nothing.
 use mathlib.Core.Path.{_≡_, refl, sym, ap, subst}
 use mathlib.Core.Bool.{Bool, true, false}
@@ -25,11 +26,11 @@ use prog.Wp.{Heap, Env, Out, afterTurn, afterBlock, afterSeq, atReturn, Wp, WpFn
 use ghost.Atoms.{Atoms, sem}
 use contract.Monad.{Fun, fact}
 use contract.Running.{givenOf, tables, tablesOf}
-use types.Kit.{Given, Item, Seq, Go, ‵, raw, _⊛_, ⋆, some, later, anyQ, atRet, runs, _$_, _∵_, !, qed, by, move, keep, drop, use0, use1, split, join, pick, rewrite}
-use types.Kit.{fsplit, fjoin, feqI, fltI, suffices, frame, await, done}
+use types.Kit.{Given, Item, Seq, Go, ‵, raw, _⊛_, ⋆, some, later, anyQ, atRet, runs, _$_, _∵_, !, qed, by, move, keep, drop, use0, use1, split}
+use types.Kit.{join, pick, rewrite, fsplit, fjoin, feqI, fltI, suffices, frame, await, done}
 use types.Part.{whole, sub, look-in, agg}
-use types.Run.{look, look-raw, init, store, forget, stop, hop, fld, from, load, lit, of-opd, bin, and-then, no-more, assigns, stays, leaves-loop, land-last, returns}
-use types.Run.{enter, exec, again, Below, alloc1, alloc0, params1, pass1, pass0, free1, free0}
+use types.Run.{look, look-raw, init, store, forget, stop, hop, fld, from, load, lit, of-opd, bin, and-then, no-more, assigns, stays, leaves-loop}
+use types.Run.{land-last, returns, enter, exec, again, Below, alloc1, alloc0, params1, pass1, pass0, free1, free0}
 use types.Share.{arr-parts}
 use sound.Loop.{loop-rule}
 use sound.WpLaws.{fmOf, WpFn-mono}
