@@ -54,6 +54,17 @@ SEED ?= 1
 fuzz: compare
 	compare/target/release/compare --seconds $(SECONDS) --seed $(SEED)
 
+# The static library over task records that a caller keeps itself, from the proved crate records, and such a caller.
+.PHONY: records
+records: build/libmastrecords.a
+	@cd compare && MAST_LIB_DIR=../build cargo build --release --quiet --features records --bin compare_records
+	compare/target/release/compare_records $(SEED)
+
+build/libmastrecords.a: FORCE
+	@mkdir -p build
+	@rt staticlib records >build/records.log 2>&1 || { cat build/records.log; exit 1; }
+	@cmp -s target/staticlib/librecords.a $@ || cp target/staticlib/librecords.a $@
+
 bench: compare build
 	compare/target/release/bench
 	@$(CC) -std=gnu99 -Wall -Wextra -O2 -Iinclude tools/bench_agreement.c build/libmastclover.a -o build/bench_agreement
