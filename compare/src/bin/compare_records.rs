@@ -4,9 +4,9 @@
 use std::env;
 use std::process::ExitCode;
 
-use compare::generate::Plan;
+use compare::fuzz::generate::Plan;
 use compare::model::{Machine, State, Task};
-use compare::rng::Rng;
+use compare::fuzz::rng::Rng;
 use compare::status::WAITING;
 
 const USAGE: &str = "usage: compare_records [SEED]";
