@@ -18,7 +18,8 @@ use Rattle.laws.proofs.Fit.{length-tabulate, getD-tabulate, sets-join}
 use Rattle.words.specs.Words.{bytesOf, wordAt, blank}
 use Rattle.rules.specs.declared.Task.{Task}
 use Rattle.semaphore.specs.declared.Semaphore.{Semaphore}
-use Rattle.tables.specs.Layout.{tablesLength, taskPlace, slotPlace, recordRow, taskAt, recordAt, isQueueLaid, isLaid}
+use Rattle.tables.specs.declared.Head.{Head}
+use Rattle.tables.specs.Layout.{tablesLength, taskPlace, slotPlace, recordRow, taskAt, headOf, recordAt, isQueueLaid, isLaid}
 
 -- ---- a queue, loaded place by place
 
@@ -60,21 +61,28 @@ slot-stored m m₁ m₂ at s e₁ e₂ =
 
 -- ---- a record, loaded word by word
 
+abbrev recordWith : Head → List ℕ → Semaphore
+recordWith s queue =
+    record { generation = s .generation; live = s .live; name = s .name; attributes = s .attributes; count = s .count; owner = s .owner; nest = s .nest; waiters = s .waiters; queue = queue }
+
 pub task-loaded : (bs : List ℕ) (i a b c d : ℕ)
     → a ≡ wordAt bs (taskPlace i) → b ≡ wordAt bs (taskPlace i + 1) → c ≡ wordAt bs (taskPlace i + 2) → d ≡ wordAt bs (taskPlace i + 3)
     → _≡_ {A = Task} (record { priority = a; answer = b; awaited = c; ticks = d }) (taskAt bs i)
 unfolding taskAt
 task-loaded bs i a b c d ea eb ec ed = cc
 
-pub slot-loaded : (bs : List ℕ) (i a b c d e f g h : ℕ) (queue : List ℕ)
+pub head-loaded : (bs : List ℕ) (i a b c d e f g h : ℕ)
     → a ≡ wordAt bs (slotPlace i) → b ≡ wordAt bs (slotPlace i + 1) → c ≡ wordAt bs (slotPlace i + 2) → d ≡ wordAt bs (slotPlace i + 3)
     → e ≡ wordAt bs (slotPlace i + 4) → f ≡ wordAt bs (slotPlace i + 5) → g ≡ wordAt bs (slotPlace i + 6) → h ≡ wordAt bs (slotPlace i + 7)
-    → queue ≡ tabulate 32 (λ k. wordAt bs (slotPlace i + 8 + k))
-    → _≡_ {A = Semaphore}
-    (record { generation = a; live = b; name = c; attributes = d; count = e; owner = f; nest = g; waiters = h; queue = queue })
-    (recordAt bs i)
+    → _≡_ {A = Head}
+    (record { generation = a; live = b; name = c; attributes = d; count = e; owner = f; nest = g; waiters = h })
+    (headOf (recordAt bs i))
 unfolding recordAt
-slot-loaded bs i a b c d e f g h queue ea eb ec ed ee ef eg eh eq = cc
+head-loaded bs i a b c d e f g h ea eb ec ed ee ef eg eh = cc
+
+-- what stands before a queue, with the queue
+pub slot-loaded : (s : Semaphore) (head : Head) (queue : List ℕ) → head ≡ headOf s → queue ≡ s .queue → recordWith head queue ≡ s
+slot-loaded s head queue e q = λ k. recordWith (e k) (q k)
 
 -- ---- tests in a row
 

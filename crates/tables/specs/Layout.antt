@@ -14,6 +14,7 @@ use Rattle.rules.specs.declared.Task.{Task}
 use Rattle.rules.specs.Machine.{Slot, Tables, noTask, freeSlot}
 use Rattle.semaphore.specs.declared.Semaphore.{Semaphore}
 use Rattle.semaphore.specs.Record.{slotFrom}
+use Rattle.tables.specs.declared.Head.{Head}
 
 -- 2690 words of four bytes
 abbrev pub tablesLength : ℕ
@@ -64,6 +65,16 @@ taskAt bs i =
 unfoldable pub recordAt : List ℕ → ℕ → Semaphore
 recordAt bs i =
     record { generation = wordAt bs (slotPlace i); live = wordAt bs (slotPlace i + 1); name = wordAt bs (slotPlace i + 2); attributes = wordAt bs (slotPlace i + 3); count = wordAt bs (slotPlace i + 4); owner = wordAt bs (slotPlace i + 5); nest = wordAt bs (slotPlace i + 6); waiters = wordAt bs (slotPlace i + 7); queue = tabulate 32 (λ k. wordAt bs (slotPlace i + 8 + k)) }
+
+-- the words of a slot before its queue
+abbrev pub headOf : Semaphore → Head
+headOf s =
+    record { generation = s .generation; live = s .live; name = s .name; attributes = s .attributes; count = s .count; owner = s .owner; nest = s .nest; waiters = s .waiters }
+
+-- the slot that they make with a queue
+abbrev pub slotWith : Head → List ℕ → Slot
+slotWith s queue =
+    record { generation = s .generation; live = s .live; name = s .name; attributes = s .attributes; count = s .count; owner = s .owner; nest = s .nest; queue = queue }
 
 unfoldable pub modelOf : List ℕ → Tables
 modelOf bs =

@@ -8,7 +8,7 @@ ghost use lib.ListN.{length, getD};
 ghost use lib.Seq.{sets};
 ghost use Rattle.words.specs.Words.{bytesOf, wordAt};
 ghost use Rattle.laws.specs.Rows.{tabulate};
-ghost use Rattle.tables.specs.Layout.{tablesLength, taskPlace, slotPlace, taskRow, recordRow, taskAt, recordAt, isQueueLaid, isLaid};
+ghost use Rattle.tables.specs.Layout.{tablesLength, taskPlace, slotPlace, taskRow, recordRow, taskAt, headOf, recordAt, isQueueLaid, isLaid};
 ghost use Rattle.laws.specs.All.{all};
 
 pub const TABLES_LENGTH: usize = 10760;
@@ -44,6 +44,18 @@ const NEST: usize = 6;
 const WAITERS: usize = 7;
 
 const QUEUE: usize = 8;
+
+// The words of a slot before its queue, for those who read the queue where it lies.
+pub struct Head {
+    pub generation: u32,
+    pub live: u32,
+    pub name: u32,
+    pub attributes: u32,
+    pub count: u32,
+    pub owner: u32,
+    pub nest: u32,
+    pub waiters: u32,
+}
 
 // N, the number of tasks.
 pub fn task_count(m: &[u8]) -> u32
@@ -127,10 +139,28 @@ pub fn queue_entry(m: &[u8], i: usize, k: usize) -> u32
     words::word(m, SLOTS_AT + SLOT_WORDS * i + QUEUE + k)
 }
 
-fn load_queue(m: &[u8], at: usize) -> [u32; 32]
-    requires { ⌜ 4 * at + 128 ≤ length (now m) ⌝ }
-    ensures { λ r. ⌜ r ≡ tabulate 32 (λ k. wordAt (now (m .entry)) (at + k)) ⌝ }
+pub fn load_head(m: &[u8], i: usize) -> Head
+    requires { ⌜ (length (now m) ≡ tablesLength) × (i < 64) ⌝ }
+    ensures { λ r. ⌜ r ≡ headOf (recordAt (now (m .entry)) i) ⌝ }
 {
+    let at = SLOTS_AT + SLOT_WORDS * i;
+    Head {
+        generation: words::word(m, at),
+        live: words::word(m, at + LIVE),
+        name: words::word(m, at + NAME),
+        attributes: words::word(m, at + ATTRIBUTES),
+        count: words::word(m, at + COUNT),
+        owner: words::word(m, at + OWNER),
+        nest: words::word(m, at + NEST),
+        waiters: words::word(m, at + WAITERS),
+    }
+}
+
+fn load_queue(m: &[u8], i: usize) -> [u32; 32]
+    requires { ⌜ (length (now m) ≡ tablesLength) × (i < 64) ⌝ }
+    ensures { λ r. ⌜ r ≡ recordAt (now (m .entry)) i .queue ⌝ }
+{
+    let at = SLOTS_AT + SLOT_WORDS * i + QUEUE;
     let mut queue = [0u32; 32];
     let mut k = 0;
     while k < 32 {
@@ -144,17 +174,17 @@ pub fn load_slot(m: &[u8], i: usize) -> Semaphore
     requires { ⌜ (length (now m) ≡ tablesLength) × (i < 64) ⌝ }
     ensures { λ r. ⌜ r ≡ recordAt (now (m .entry)) i ⌝ }
 {
-    let at = SLOTS_AT + SLOT_WORDS * i;
-    let queue = load_queue(m, at + QUEUE);
+    let s = load_head(m, i);
+    let queue = load_queue(m, i);
     Semaphore {
-        generation: words::word(m, at),
-        live: words::word(m, at + LIVE),
-        name: words::word(m, at + NAME),
-        attributes: words::word(m, at + ATTRIBUTES),
-        count: words::word(m, at + COUNT),
-        owner: words::word(m, at + OWNER),
-        nest: words::word(m, at + NEST),
-        waiters: words::word(m, at + WAITERS),
+        generation: s.generation,
+        live: s.live,
+        name: s.name,
+        attributes: s.attributes,
+        count: s.count,
+        owner: s.owner,
+        nest: s.nest,
+        waiters: s.waiters,
         queue: queue,
     }
 }

@@ -5,18 +5,28 @@ use Prim.Native.Nat.{_≤_, _-_, _+_}
 use native.Mathlib.Omega.{arith}
 use lib.ListN.{length, length-set, replicate}
 use Rattle.words.specs.Words.{wordAt}
+use Rattle.tables.specs.Layout.{slotPlace, recordAt}
 use Rattle.tables.proofs.Stores.{Loaded, loaded-none, loaded-more, loaded-all}
 use Rattle.tables.proofs.load_queue.Statement.{statement}
 use Rattle.tables.proofs.load_queue.Tie as tie
 
 abbrev Inv-loop : tie.InvT-loop
-Inv-loop m at queue₀ k₀ queue k = (k ≤ 32) × (length queue ≡ 32) × Loaded (λ j. wordAt m (at + j)) queue k
+Inv-loop m i at queue₀ k₀ queue k = (k ≤ 32) × (length queue ≡ 32) × Loaded (λ j. wordAt m (slotPlace i + 8 + j)) queue k
 
 abbrev μ-loop : tie.MeasureT-loop
-μ-loop m at queue₀ k₀ queue k = 32 - k
+μ-loop m i at queue₀ k₀ queue k = 32 - k
+
+mul-at : tie.Need-mul-at Inv-loop μ-loop
+mul-at c = search needs
+
+add-at : tie.Need-add-at Inv-loop μ-loop
+add-at c = search needs
+
+add-at-2 : tie.Need-add-at-2 Inv-loop μ-loop
+add-at-2 c = search needs
 
 loop-holds : tie.Need-loop-holds Inv-loop μ-loop
-loop-holds c = (omega arith, omega arith, loaded-none (λ j. wordAt (c .before .args .m .now) (c .before .args .at + j)) (replicate 32 0))
+loop-holds c = (omega arith, omega arith, loaded-none (λ j. wordAt (c .before .args .m .now) (slotPlace (c .before .args .i) + 8 + j)) (replicate 32 0))
 
 add-word : tie.Need-add-word Inv-loop μ-loop
 add-word c = search needs
@@ -42,6 +52,7 @@ loop-again c =
     (omega arith, simp length-set (omega arith), loaded-more _ (turn .queue) (turn .k) _ (omega arith) (c .word .ensures) (turn .inv .2))
 
 returns : tie.Need-returns Inv-loop μ-loop
+unfolding recordAt
 returns c = loaded-all 32 _ (c .before .loop .queue) (omega arith) (λ j h. c .before .loop .inv .2 j (omega arith))
 
 pub load-queue-spec : {M : Type 1} → statement M
@@ -50,6 +61,9 @@ load-queue-spec =
     (tie.spec
     Inv-loop
     μ-loop
+    mul-at
+    add-at
+    add-at-2
     loop-holds
     add-word
     word-requires
