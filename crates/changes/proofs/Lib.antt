@@ -1,4 +1,3 @@
-pub mod Laws
-pub mod Mapped
+pub mod PutWakeStart
 pub mod Ticks
 pub mod TickSlots

@@ -11,22 +11,24 @@ use Rattle.laws.specs.Choose.{choose}
 use Rattle.laws.specs.Rows.{fit}
 use Rattle.laws.proofs.Fit.{length-fit, getD-fit}
 use Rattle.words.specs.Words.{wordAt}
-use Rattle.words.proofs.Laws.{Bytes}
+use Rattle.words.proofs.WordsInBytes.{Bytes}
 use Rattle.rules.specs.declared.Task.{Task}
-use Rattle.rules.specs.Machine.{Slot, Tables, noTask, freeSlot, taskOf, slotOf, putSlot}
+use Rattle.rules.specs.Machine.{Slot, Tables, withTasks, withSlots, noTask, freeSlot, taskOf, slotOf, putSlot}
+use Rattle.rules.specs.Semaphore.{requeued}
 use Rattle.rules.specs.Calls.{expires, ticked, tickedSlot}
 use Rattle.semaphore.specs.declared.Semaphore.{Semaphore}
-use Rattle.semaphore.specs.Record.{Padded, TasksOnly, slotKeeping}
+use Rattle.semaphore.specs.Record.{recordOf, Padded, TasksOnly, slotKeeping}
 use Rattle.semaphore.proofs.Queue.{length-keep, keep-waiting}
 use Rattle.tables.specs.Layout.{tablesLength, laid, recordAt}
-use Rattle.tables.proofs.LawsRead.{recordOf, record-padded, recordAt-laid, laid-slots, length-laid}
-use Rattle.changes.specs.Limits.{queueAt, Limited, TaskQueues, expiring}
-use Rattle.changes.proofs.Mapped.{mapped, length-mapped, mapped-at, mapped-next, mapped-all, mapped-keeps}
-use Rattle.changes.proofs.Ticks.{flag-of, count-laid, limited-holds, slotTicked}
+use Rattle.tables.proofs.LayoutRead.{laid-words, limited-holds, record-padded, count-laid, record-laid, laid-slots, length-laid}
+use Rattle.tables.specs.Sizes.{Limited}
+use Rattle.changes.specs.Tick.{queueIn, TaskQueues, expiring, tickedTables}
+use Rattle.laws.proofs.Mapped.{mapped, length-mapped, mapped-at, mapped-next, mapped-all, mapped-keeps}
+use Rattle.changes.proofs.Ticks.{flag-of, slotTicked}
 
 -- with the first i slots gone through
 abbrev pub keptUpTo : List Bool → Tables → ℕ → Tables
-keptUpTo expired t i = record { tasks = t .tasks; slots = mapped (λ s. slotKeeping s expired) i (t .slots) }
+keptUpTo expired t i = withSlots t (mapped (λ s. slotKeeping s expired) i (t .slots))
 
 abbrev pub KeptUpTo : List ℕ → List Bool → List ℕ → ℕ → Type 0
 KeptUpTo m₀ expired m i = (t : Tables) → m₀ ≡ laid t → Limited t → m ≡ laid (keptUpTo expired t i)
@@ -57,15 +59,15 @@ module _ (expired : List Bool) where
         let n : i < length (t .slots) = omega (arith, slots-counted t e h) in
         w (keptUpTo expired t i) (s t e h) (limited-kept t i h) (omega (arith, length-mapped f i (t .slots)))
         ∙ ap (λ (x : Slot). laid (putSlot (keptUpTo expired t i) (suc i) (f x))) (mapped-at f i (t .slots) (freeSlot 0))
-        ∙ ap (λ (x : List Slot). laid (record { tasks = t .tasks; slots = x })) (mapped-next f i (t .slots) (freeSlot 0) n)
+        ∙ ap (λ (x : List Slot). laid (withSlots t x)) (mapped-next f i (t .slots) (freeSlot 0) n)
         ∙ ap (λ (k : ℕ). laid (keptUpTo expired t k)) (sym (add-one i))
 
     pub kept-all : (m : List ℕ) (i : ℕ) → i ≡ wordAt m₀ 1 → KeptUpTo m₀ expired m i
-        → (t : Tables) → m₀ ≡ laid t → Limited t → m ≡ laid (record { tasks = t .tasks; slots = map (λ s. slotKeeping s expired) (t .slots) })
+        → (t : Tables) → m₀ ≡ laid t → Limited t → m ≡ laid (withSlots t (map (λ s. slotKeeping s expired) (t .slots)))
     kept-all m i p s t e h =
         s t e h
         ∙ ap (λ (k : ℕ). laid (keptUpTo expired t k)) (p ∙ slots-counted t e h)
-        ∙ ap (λ (x : List Slot). laid (record { tasks = t .tasks; slots = x })) (mapped-all (λ s. slotKeeping s expired) (t .slots))
+        ∙ ap (λ (x : List Slot). laid (withSlots t x)) (mapped-all (λ s. slotKeeping s expired) (t .slots))
 
 -- ---- what makes each turn safe
 
@@ -96,13 +98,13 @@ module _ (m₀ : List ℕ) (b₀ : Bytes m₀) (q : TaskQueues m₀) where
       let t : Tables = q .model in
       let e : m ≡ laid (keptUpTo expired t i) = k t (q .same) (q .limited) in
       let n : i < length (t .slots) = omega (arith, slots-counted expired m₀ b₀ t (q .same) (q .limited)) in
-      let few : length (queueAt t i) ≤ 32 = q .limited .queues i n in
+      let few : length (queueIn t i) ≤ 32 = q .limited .queues i n in
       let r : recordAt m i ≡ recordOf (slotOf t (suc i)) =
       ap (λ (x : List ℕ). recordAt x i) e
-      ∙ recordAt-laid (keptUpTo expired t i) (limited-holds (keptUpTo expired t i) (limited-kept expired t i (q .limited)) (rw e at b)) i (omega (arith, q .limited .slots))
+      ∙ record-laid (keptUpTo expired t i) (laid-words (keptUpTo expired t i) (rw e at b)) i (omega (arith, q .limited .slots))
       ∙ ap {B = Semaphore} recordOf (mapped-at (λ s. slotKeeping s expired) i (t .slots) (freeSlot 0))
       in
-      waiting-same r (record-padded (slotOf t (suc i)) few) (filled-tasks (queueAt t i) few (q .numbers i n))
+      waiting-same r (record-padded (slotOf t (suc i)) few) (filled-tasks (queueIn t i) few (q .numbers i n))
 
 -- ---- the flags tell who still waits
 
@@ -124,8 +126,7 @@ module _ (t : Tables) (h : length (t .tasks) ≤ 32) where
 
   keeping-ticked : (s : Slot) → slotKeeping s (expiring t) ≡ tickedSlot t s
   unfolding tickedSlot
-  keeping-ticked s =
-      λ k. record { generation = s .generation; live = s .live; name = s .name; attributes = s .attributes; count = s .count; owner = s .owner; nest = s .nest; queue = keep-waiting t (expiring t) (s .queue) (λ j l. flag-told (getD (s .queue) j 0)) k }
+  keeping-ticked s = ap {B = Slot} (requeued s) (keep-waiting t (expiring t) (s .queue) (λ j l. flag-told (getD (s .queue) j 0)))
 
   slots-ticked : map (λ s. slotKeeping s (expiring t)) (t .slots) ≡ map (tickedSlot t) (t .slots)
   slots-ticked = λ k. map (λ s. keeping-ticked s k) (t .slots)
@@ -133,17 +134,17 @@ module _ (t : Tables) (h : length (t .tasks) ≤ 32) where
 -- ---- the whole tick
 
 module _ (m₀ m₁ : List ℕ) (expired : List Bool) (flags : (t : Tables) → m₀ ≡ laid t → expired ≡ expiring t)
-    (slots : (t : Tables) → m₀ ≡ laid t → Limited t → m₁ ≡ laid (record { tasks = t .tasks; slots = map (λ s. slotKeeping s expired) (t .slots) })) where
+    (slots : (t : Tables) → m₀ ≡ laid t → Limited t → m₁ ≡ laid (withSlots t (map (λ s. slotKeeping s expired) (t .slots)))) where
   pub few-tasks : Bytes m₁ → TaskQueues m₀ → wordAt m₁ 0 ≤ 32
   few-tasks b q =
       let t : Tables = q .model in
-      let t′ : Tables = record { tasks = t .tasks; slots = map (λ s. slotKeeping s expired) (t .slots) } in
+      let t′ : Tables = withSlots t (map (λ s. slotKeeping s expired) (t .slots)) in
       let e : m₁ ≡ laid t′ = slots t (q .same) (q .limited) in
-      omega (arith, ap (λ (x : List ℕ). wordAt x 0) e, count-laid t′ (rw e at b), q .limited .tasks)
+      omega (arith, ap (λ (x : List ℕ). wordAt x 0) e, count-laid t′ (laid-words t′ (rw e at b)), q .limited .tasks)
 
-  pub all-ticked : (m₂ : List ℕ) → ((t : Tables) → m₁ ≡ laid t → m₂ ≡ laid (record { tasks = map ticked (t .tasks); slots = t .slots }))
-      → (t : Tables) → m₀ ≡ laid t → Limited t → m₂ ≡ laid (record { tasks = map ticked (t .tasks); slots = map (tickedSlot t) (t .slots) })
+  pub all-ticked : (m₂ : List ℕ) → ((t : Tables) → m₁ ≡ laid t → m₂ ≡ laid (withTasks t (map ticked (t .tasks))))
+      → (t : Tables) → m₀ ≡ laid t → Limited t → m₂ ≡ laid (tickedTables t)
   all-ticked m₂ tasks t e h =
-      tasks (record { tasks = t .tasks; slots = map (λ s. slotKeeping s expired) (t .slots) }) (slots t e h)
-      ∙ ap (λ (x : List Slot). laid (record { tasks = map ticked (t .tasks); slots = x }))
+      tasks (withSlots t (map (λ s. slotKeeping s expired) (t .slots))) (slots t e h)
+      ∙ ap (λ (x : List Slot). laid (withSlots (withTasks t (map ticked (t .tasks))) x))
       (ap (λ (f : List Bool). map (λ s. slotKeeping s f) (t .slots)) (flags t e) ∙ slots-ticked t (h .tasks))

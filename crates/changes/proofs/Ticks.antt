@@ -6,25 +6,27 @@ use Prim.Native.Nat.{ℕ, suc, _+_, _-_, _*_, _≤_, _<_}
 use native.Mathlib.Numerals.{add-one}
 use native.Mathlib.Omega.{arith}
 use lib.Dec.{eqb}
-use lib.ListN.{length, getD}
+use lib.ListN.{length, getD, List·getD-map}
 use lib.Seq.{sets, set-getD}
 use borrow.Author.Tests.{eq-eqb, ne-eqb, le-leb, lt-leb}
 use Rattle.laws.specs.Choose.{choose}
 use Rattle.laws.proofs.Choose.{both-and, if-yes, if-no, if-eq, if-ne}
 use Rattle.words.specs.Words.{bytesOf, wordAt}
-use Rattle.words.proofs.Laws.{Bytes}
+use Rattle.words.proofs.WordsInBytes.{Bytes}
 use Rattle.rules.specs.declared.Task.{Task}
-use Rattle.rules.specs.Machine.{Slot, Tables, noTask, freeSlot, slotOf, putSlot}
+use Rattle.rules.specs.Machine.{Slot, Tables, withTasks, withSlots, noTask, freeSlot, slotOf, putSlot}
+use Rattle.rules.specs.Semaphore.{requeued}
 use Rattle.rules.specs.Calls.{readied, expires, ticked}
 use Rattle.semaphore.specs.declared.Semaphore.{Semaphore}
 use Rattle.semaphore.specs.Record.{slotFrom, Stands, keep, slotKeeping}
-use Rattle.tables.specs.Layout.{taskPlace, slotPlace, taskRow, recordRow, layout, laid, Holds, taskAt, recordAt}
-use Rattle.tables.proofs.LawsRead.{slotAt-laid, laid-slot-word}
-use Rattle.tables.proofs.LawsStore.{store-task-laid, store-slot-laid}
-use Rattle.tables.proofs.LawsHolds.{holds-bytes}
-use Rattle.changes.specs.Limits.{Limited, expiring}
-use Rattle.changes.proofs.Laws.{word-laid, task-laid}
-use Rattle.changes.proofs.Mapped.{mapped, length-mapped, mapped-at, mapped-next, mapped-all, getD-map-else, Flagged, flagged-all}
+use Rattle.tables.specs.Codec.{taskRow, recordRow}
+use Rattle.tables.specs.Layout.{taskPlace, slotPlace, laid, taskAt, recordAt}
+use Rattle.tables.proofs.LayoutRead.{laid-words, limited-holds, count-laid, task-laid, record-laid, slotAt-laid}
+use Rattle.tables.proofs.LayoutStore.{store-task-laid, store-slot-laid}
+use Rattle.tables.specs.Sizes.{Limited}
+use Rattle.changes.specs.Tick.{expiring}
+use Rattle.laws.proofs.Mapped.{mapped, length-mapped, mapped-at, mapped-next, mapped-all, Filled}
+use Rattle.laws.proofs.Fit.{fit-tabulate, tabulate-is}
 
 -- ---- one task
 
@@ -60,30 +62,28 @@ module _ (v : Task) where
 
 pub flag-of : (t : Tables) (j : ℕ) → getD (map (λ v. expires v) (t .tasks)) j false ≡ expires (getD (t .tasks) j noTask)
 unfolding choose
-flag-of t j = getD-map-else (λ v. expires v) (t .tasks) j noTask
+flag-of t j = List·getD-map (λ v. expires v) (t .tasks) j noTask
 
 -- the flags of the first k tasks
 abbrev pub FlaggedUpTo : List ℕ → List Bool → ℕ → Type 0
-FlaggedUpTo m flags k = (t : Tables) → m ≡ laid t → Flagged (λ j. getD (map (λ v. expires v) (t .tasks)) j false) flags k
+FlaggedUpTo m flags k = (t : Tables) → m ≡ laid t → Filled (λ j. getD (map (λ v. expires v) (t .tasks)) j false) false flags k
 
 pub flag-read : (m : List ℕ) (i : ℕ) (v : Task) (b : Bool) → Bytes m → i < 32 → v ≡ taskAt m i → b ≡ expires v
     → (t : Tables) → m ≡ laid t → b ≡ getD (map (λ v. expires v) (t .tasks)) i false
 flag-read m i v b by l r f t e =
-    f ∙ ap (λ (x : Task). expires x) (r ∙ ap (λ (x : List ℕ). taskAt x i) e ∙ task-laid t (rw e at by) i l) ∙ sym (flag-of t i)
+    f ∙ ap (λ (x : Task). expires x) (r ∙ ap (λ (x : List ℕ). taskAt x i) e ∙ task-laid t (laid-words t (rw e at by)) i l) ∙ sym (flag-of t i)
 
 pub flags-read : (m : List ℕ) (flags : List Bool) → length flags ≡ 32 → FlaggedUpTo m flags 32 → (t : Tables) → m ≡ laid t → flags ≡ expiring t
 unfolding expiring
-flags-read m flags h f t e = flagged-all 32 (map (λ v. expires v) (t .tasks)) flags h (f t e)
+flags-read m flags h f t e =
+    let bits : List Bool = map (λ v. expires v) (t .tasks) in
+    tabulate-is 32 (λ j. getD bits j false) flags false h (f t e) ∙ sym (fit-tabulate 32 false bits)
 
 -- ---- the tasks
 
-pub count-laid : (t : Tables) → Bytes (laid t) → wordAt (laid t) 0 ≡ length (t .tasks)
-unfolding layout
-count-laid t b = word-laid t b 0
-
 -- with the first i tasks ticked
 abbrev pub tickedUpTo : Tables → ℕ → Tables
-tickedUpTo t i = record { tasks = mapped ticked i (t .tasks); slots = t .slots }
+tickedUpTo t i = withTasks t (mapped ticked i (t .tasks))
 
 abbrev pub TickedUpTo : List ℕ → List ℕ → ℕ → Type 0
 TickedUpTo m₀ m i = (t : Tables) → m₀ ≡ laid t → m ≡ laid (tickedUpTo t i)
@@ -93,27 +93,24 @@ module _ (m₀ : List ℕ) (b₀ : Bytes m₀) where
       → m′ ≡ sets m (4 * taskPlace i) (bytesOf (taskRow r)) → TickedUpTo m₀ m i → TickedUpTo m₀ m′ (i + 1)
   ticked-more m m′ i v r b l h u f w s t e =
       let t′ : Tables = tickedUpTo t i in
-      let n : i < length (t .tasks) = omega (arith, count-laid t (rw e at b₀), ap (λ (x : List ℕ). wordAt x 0) e) in
+      let n : i < length (t .tasks) = omega (arith, count-laid t (laid-words t (rw e at b₀)), ap (λ (x : List ℕ). wordAt x 0) e) in
       let n′ : i < length (t′ .tasks) = omega (arith, length-mapped ticked i (t .tasks)) in
-      let old : v ≡ getD (t .tasks) i noTask = u ∙ ap (λ (x : List ℕ). taskAt x i) (s t e) ∙ task-laid t′ (rw (s t e) at b) i l ∙ mapped-at ticked i (t .tasks) noTask in
+      let old : v ≡ getD (t .tasks) i noTask = u ∙ ap (λ (x : List ℕ). taskAt x i) (s t e) ∙ task-laid t′ (laid-words t′ (rw (s t e) at b)) i l ∙ mapped-at ticked i (t .tasks) noTask in
       w
       ∙ ap₂ (λ (x : List ℕ) (y : Task). sets x (4 * taskPlace i) (bytesOf (taskRow y))) (s t e) (f ∙ ap ticked old)
       ∙ store-task-laid t′ i (ticked (getD (t .tasks) i noTask)) l n′
-      ∙ ap (λ (x : List Task). laid (record { tasks = x; slots = t .slots })) (mapped-next ticked i (t .tasks) noTask n)
+      ∙ ap (λ (x : List Task). laid (withTasks t x)) (mapped-next ticked i (t .tasks) noTask n)
       ∙ ap (λ (k : ℕ). laid (tickedUpTo t k)) (sym (add-one i))
 
   pub ticked-all : (m : List ℕ) (i : ℕ) → i ≡ wordAt m₀ 0 → TickedUpTo m₀ m i
-      → (t : Tables) → m₀ ≡ laid t → m ≡ laid (record { tasks = map ticked (t .tasks); slots = t .slots })
+      → (t : Tables) → m₀ ≡ laid t → m ≡ laid (withTasks t (map ticked (t .tasks)))
   ticked-all m i p s t e =
-      let n : i ≡ length (t .tasks) = omega (arith, count-laid t (rw e at b₀), ap (λ (x : List ℕ). wordAt x 0) e) in
+      let n : i ≡ length (t .tasks) = omega (arith, count-laid t (laid-words t (rw e at b₀)), ap (λ (x : List ℕ). wordAt x 0) e) in
       s t e
       ∙ ap (λ (k : ℕ). laid (tickedUpTo t k)) n
-      ∙ ap (λ (x : List Task). laid (record { tasks = x; slots = t .slots })) (mapped-all ticked (t .tasks))
+      ∙ ap (λ (x : List Task). laid (withTasks t x)) (mapped-all ticked (t .tasks))
 
 -- ---- one slot
-
-pub limited-holds : (t : Tables) → Limited t → Bytes (laid t) → Holds t
-limited-holds t h b = holds-bytes t (h .tasks) (h .slots) (h .queues) b
 
 -- the slot at i, its queue without the tasks whose wait has ended
 abbrev pub slotTicked : Tables → ℕ → List Bool → Tables
@@ -125,19 +122,18 @@ keep-nobody expired [] h = refl
 keep-nobody expired (q ∷ qs) h = absurd (omega arith)
 
 keeping-nobody : (expired : List Bool) (s : Slot) → length (s .queue) ≡ 0 → slotKeeping s expired ≡ s
-keeping-nobody expired s h =
-    λ k. record { generation = s .generation; live = s .live; name = s .name; attributes = s .attributes; count = s .count; owner = s .owner; nest = s .nest; queue = keep-nobody expired (s .queue) h k }
+keeping-nobody expired s h = ap {B = Slot} (requeued s) (keep-nobody expired (s .queue) h)
 
 module _ (m : List ℕ) (i : ℕ) (expired : List Bool) (b : Bytes m) (l : i < 64) where
   -- nobody waits
-  pub slot-quiet : (w : ℕ) → w ≡ wordAt m (slotPlace i + 7) → w ≡ 0
+  pub slot-quiet : (w : ℕ) → w ≡ recordAt m i .waiters → w ≡ 0
       → (t : Tables) → m ≡ laid t → Limited t → i < length (t .slots) → m ≡ laid (slotTicked t i expired)
   slot-quiet w r z t e h n =
       let s : Slot = slotOf t (suc i) in
-      let q : wordAt (laid t) (slotPlace i + 7) ≡ length (s .queue) = laid-slot-word t (limited-holds t h (rw e at b)) i (slotPlace i + 7) 7 refl l (omega arith) in
-      let none : length (s .queue) ≡ 0 = omega (arith, ap (λ (x : List ℕ). wordAt x (slotPlace i + 7)) e) in
+      let q = record-laid t (laid-words t (rw e at b)) i l in
+      let none : length (s .queue) ≡ 0 = sym (r ∙ ap (λ (x : List ℕ). recordAt x i .waiters) e ∙ ap (λ (x : Semaphore). x .waiters) q) ∙ z in
       e
-      ∙ ap (λ (x : List Slot). laid (record { tasks = t .tasks; slots = x })) (sym (set-getD (t .slots) i (freeSlot 0)))
+      ∙ ap (λ (x : List Slot). laid (withSlots t x)) (sym (set-getD (t .slots) i (freeSlot 0)))
       ∙ ap (λ (x : Slot). laid (putSlot t (suc i) x)) (sym (keeping-nobody expired s none))
 
   -- the shorter queue is stored

@@ -5,12 +5,13 @@ ghost use mathlib.Core.Path.{_≡_};
 ghost use mathlib.Core.List.{map};
 ghost use Prim.Native.Nat.{ℕ, suc, _≤_, _<_};
 ghost use lib.ListN.{length, getD, take};
-ghost use Rattle.rules.specs.Machine.{Slot, Tables, unstarted, slotOf, putTask, putSlot};
-ghost use Rattle.rules.specs.Calls.{readied, wake, wakeAll, newTask, started, expires, ticked, tickedSlot};
+ghost use Rattle.rules.specs.Machine.{Slot, Tables, unstarted, withTasks, withSlots, slotOf, putTask, putSlot};
+ghost use Rattle.rules.specs.Calls.{readied, wake, wakeAll, newTask, started, expires, ticked};
 ghost use Rattle.semaphore.specs.Record.{Padded, Stands, TasksOnly, slotKeeping};
 ghost use Rattle.words.specs.Words.{wordAt};
 ghost use Rattle.tables.specs.Layout.{tablesLength, laid, recordAt};
-ghost use Rattle.changes.specs.Limits.{Limited, TaskQueues, expiring};
+ghost use Rattle.tables.specs.Sizes.{Limited};
+ghost use Rattle.changes.specs.Tick.{TaskQueues, expiring, tickedTables};
 
 // A wait ends: the task is ready, with the wait's answer.
 fn readied(v: Task, answer: u32) -> Task
@@ -96,7 +97,7 @@ fn expires(v: Task) -> bool
 }
 
 // A timed wait loses a tick; a wait at 1 ends with answer 6.
-pub fn ticked(v: Task) -> Task
+fn ticked(v: Task) -> Task
     ensures { λ r. ⌜ r ≡ ticked v ⌝ }
 {
     if v.answer != rules::WAITING {
@@ -117,7 +118,7 @@ pub fn ticked(v: Task) -> Task
 }
 
 // The flags of the tasks whose wait a tick ends. A place beyond the last task is 0, and no wait.
-pub fn expired(m: &[u8]) -> [bool; 32]
+fn expired(m: &[u8]) -> [bool; 32]
     requires { ⌜ length (now m) ≡ tablesLength ⌝ }
     ensures { λ r. ⌜ ((t : Tables) → now (m .entry) ≡ laid t → r ≡ expiring t) ⌝ }
 {
@@ -136,8 +137,7 @@ fn tick_slot(m: &mut [u8], i: usize, expired: [bool; 32])
     requires { ⌜ (length (now m) ≡ tablesLength) × (i < 64) × Padded (recordAt (now m) i) × TasksOnly (recordAt (now m) i .waiters) (recordAt (now m) i .queue) ⌝ }
     ensures { λ _. ⌜ ((t : Tables) → now (m .entry) ≡ laid t → Limited t → i < length (t .slots) → now (m .exit) ≡ laid (putSlot t (suc i) (slotKeeping (slotOf t (suc i)) expired))) ⌝ }
 {
-    let at = 130 + 40 * i;
-    if words::word(m, at + 7) == 0 {
+    if tables::slot_waiters(m, i) == 0 {
         return;
     }
     let s = tables::load_slot(m, i);
@@ -145,9 +145,9 @@ fn tick_slot(m: &mut [u8], i: usize, expired: [bool; 32])
     tables::store_slot(m, i, rest);
 }
 
-pub fn tick_slots(m: &mut [u8], expired: [bool; 32])
+fn tick_slots(m: &mut [u8], expired: [bool; 32])
     requires { ⌜ TaskQueues (now m) ⌝ }
-    ensures { λ _. ⌜ ((t : Tables) → now (m .entry) ≡ laid t → Limited t → now (m .exit) ≡ laid (record { tasks = t .tasks; slots = map (λ s. slotKeeping s expired) (t .slots) })) ⌝ }
+    ensures { λ _. ⌜ ((t : Tables) → now (m .entry) ≡ laid t → Limited t → now (m .exit) ≡ laid (withSlots t (map (λ s. slotKeeping s expired) (t .slots)))) ⌝ }
 {
     let slots = tables::slot_count(m) as usize;
     let mut i = 0;
@@ -157,9 +157,9 @@ pub fn tick_slots(m: &mut [u8], expired: [bool; 32])
     }
 }
 
-pub fn tick_tasks(m: &mut [u8])
+fn tick_tasks(m: &mut [u8])
     requires { ⌜ (length (now m) ≡ tablesLength) × (wordAt (now m) 0 ≤ 32) ⌝ }
-    ensures { λ _. ⌜ ((t : Tables) → now (m .entry) ≡ laid t → now (m .exit) ≡ laid (record { tasks = map ticked (t .tasks); slots = t .slots })) ⌝ }
+    ensures { λ _. ⌜ ((t : Tables) → now (m .entry) ≡ laid t → now (m .exit) ≡ laid (withTasks t (map ticked (t .tasks)))) ⌝ }
 {
     let tasks = tables::task_count(m) as usize;
     let mut i = 0;
@@ -174,7 +174,7 @@ pub fn tick_tasks(m: &mut [u8])
 // What a tick leaves: the queues without the tasks whose wait has ended, and then each task a tick later.
 pub fn tick_tables(m: &mut [u8])
     requires { ⌜ TaskQueues (now m) ⌝ }
-    ensures { λ _. ⌜ ((t : Tables) → now (m .entry) ≡ laid t → Limited t → now (m .exit) ≡ laid (record { tasks = map ticked (t .tasks); slots = map (tickedSlot t) (t .slots) })) ⌝ }
+    ensures { λ _. ⌜ ((t : Tables) → now (m .entry) ≡ laid t → Limited t → now (m .exit) ≡ laid (tickedTables t)) ⌝ }
 {
     let flags = expired(m);
     tick_slots(m, flags);

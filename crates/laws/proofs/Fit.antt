@@ -5,7 +5,7 @@ use Prim.Native.Nat.{ℕ, zero, suc, _+_, _-_, _≤_, _<_}
 use native.Mathlib.Nat.{not-suc-le-zero, zero-add, suc-add, sub-zero, suc-sub-suc}
 use native.Mathlib.Omega.{arith}
 use lib.ListN.{length, getD, set, take, replicate, length-set}
-use lib.Seq.{sets, set-append-left}
+use lib.Seq.{sets, set-append-left, ext-getD}
 use Rattle.laws.specs.Rows.{fit, tabulate}
 
 module _ {A : Type 0} where
@@ -40,6 +40,11 @@ module _ {A : Type 0} where
   unfolding tabulate
   tabulate-getD [] d = refl
   tabulate-getD (x ∷ xs) d = ap (λ (r : List A). x ∷ r) (tabulate-getD xs d)
+
+  -- a list of n elements, by its values
+  pub tabulate-is : (n : ℕ) (f : ℕ → A) (xs : List A) (d : A) → length xs ≡ n → ((i : ℕ) → i < n → getD xs i d ≡ f i) → xs ≡ tabulate n f
+  tabulate-is n f xs d e h =
+      ext-getD d xs (tabulate n f) (e ∙ sym (length-tabulate n f)) (λ i l. h i (omega arith) ∙ sym (getD-tabulate n f i d (omega arith)))
 
   -- the first n values, then the m values from n on
   pub tabulate-add : (n m : ℕ) (f : ℕ → A) → tabulate (n + m) f ≡ tabulate n f ++ tabulate m (λ i. f (n + i))

@@ -1,8 +1,8 @@
 -- Laws of rows of one width, laid end to end: each is one law over any width.
 use mathlib.Core.Path.{_≡_, refl, sym, ap, ap₂, _∙_}
 use mathlib.Core.List.{List, [], _∷_, _++_, map}
-use Prim.Native.Nat.{ℕ, zero, suc, _+_, _*_, _<_}
-use native.Mathlib.Nat.{not-suc-le-zero, zero-add, mul-zero, mul-suc}
+use Prim.Native.Nat.{ℕ, zero, suc, _+_, _*_, _≤_, _<_}
+use native.Mathlib.Nat.{not-suc-le-zero, zero-add, mul-zero, mul-suc, mul-le-mul-left}
 use native.Mathlib.Omega.{arith}
 use lib.ListN.{length, getD, set, replicate, length-append, replicate-append-replicate, List·getD-append}
 use lib.Seq.{sets, getD-append-add}
@@ -48,6 +48,28 @@ module _ {A : Type 0} {w : ℕ} where
       ap (λ (k : ℕ). sets (r ++ rows rs) k v) (rw (mul-suc, e) (omega arith))
       ∙ sets-right r (rows rs) (w * i) v
       ∙ ap (λ (s : List A). r ++ s) (sets-rows rs a i v (omega arith) l)
+
+-- rows that stand between other elements
+module _ {A : Type 0} {w : ℕ} (before : List A) (rs : List (List A)) (after : List A) (wide : AllWide w rs) (i : ℕ) (h : i < length rs) where
+  row-ends : w * i + w ≤ length (rows rs)
+  row-ends = rw (← mul-suc, length-rows rs wide) (mul-le-mul-left w h)
+
+  -- element j of row i
+  pub getD-between : (k j : ℕ) (d : A) → k ≡ length before + (w * i + j) → j < w → getD (before ++ (rows rs ++ after)) k d ≡ getD (getD rs i []) j d
+  getD-between k j d e l =
+      ap (λ (k : ℕ). getD (before ++ (rows rs ++ after)) k d) e
+      ∙ getD-append-add before (rows rs ++ after) (w * i + j) d
+      ∙ List·getD-append (rows rs) after d (w * i + j) (omega (arith, row-ends))
+      ∙ getD-rows rs wide i j d l
+
+  -- row i replaced
+  pub sets-between : (k : ℕ) (r : List A) → k ≡ length before + w * i → length r ≡ w
+      → sets (before ++ (rows rs ++ after)) k r ≡ before ++ (rows (set rs i r) ++ after)
+  sets-between k r e l =
+      ap (λ (k : ℕ). sets (before ++ (rows rs ++ after)) k r) e
+      ∙ sets-right before (rows rs ++ after) (w * i) r
+      ∙ ap (λ (x : List A). before ++ x)
+      (sets-left (rows rs) after (w * i) r (omega (arith, row-ends)) ∙ ap (λ (x : List A). x ++ after) (sets-rows rs wide i r h l))
 
 -- w times n values are n rows of width w
 pub rows-tabulate : {A : Type 0} (w n : ℕ) (f : ℕ → A) → tabulate (w * n) f ≡ rows (tabulate n (λ i. tabulate w (λ j. f (w * i + j))))

@@ -18,7 +18,7 @@ use Rattle.rules.specs.Semaphore.{ahead, placeOf}
 use Rattle.rules.specs.Calls.{callerRefusal}
 use Rattle.semaphore.specs.declared.Semaphore.{Semaphore}
 use Rattle.semaphore.specs.Record.{slotFrom}
-use Rattle.tables.specs.Layout.{modelOf, taskAt, recordAt, slotPlace}
+use Rattle.tables.specs.Layout.{modelOf, taskAt, recordAt}
 use Rattle.lookup.proofs.Searches.{isOpen, isNamed}
 use Rattle.lookup.proofs.Model.{length-tasks, length-slots, task-read, task-none, slot-read}
 
@@ -82,25 +82,22 @@ module _ (bs : List ℕ) where
 -- ---- a slot by its index, and the words of it that a search tests
 
 module _ (bs : List ℕ) (i : ℕ) (h : i < wordAt bs 1) where
-  pub slot-live : getD (modelOf bs .slots) i (freeSlot 0) .live ≡ wordAt bs (slotPlace i + 1)
-  unfolding recordAt
+  pub slot-live : getD (modelOf bs .slots) i (freeSlot 0) .live ≡ recordAt bs i .live
   slot-live = ap (λ (s : Slot). s .live) (slot-read bs i h)
 
-  pub slot-generation : getD (modelOf bs .slots) i (freeSlot 0) .generation ≡ wordAt bs (slotPlace i)
-  unfolding recordAt
+  pub slot-generation : getD (modelOf bs .slots) i (freeSlot 0) .generation ≡ recordAt bs i .generation
   slot-generation = ap (λ (s : Slot). s .generation) (slot-read bs i h)
 
-  pub slot-name : getD (modelOf bs .slots) i (freeSlot 0) .name ≡ wordAt bs (slotPlace i + 2)
-  unfolding recordAt
+  pub slot-name : getD (modelOf bs .slots) i (freeSlot 0) .name ≡ recordAt bs i .name
   slot-name = ap (λ (s : Slot). s .name) (slot-read bs i h)
 
   -- what a search answers of a slot's words, it answers of the slot
-  pub open-test : (live generation : ℕ) (r : Bool) → live ≡ wordAt bs (slotPlace i + 1) → generation ≡ wordAt bs (slotPlace i)
+  pub open-test : (live generation : ℕ) (r : Bool) → live ≡ recordAt bs i .live → generation ≡ recordAt bs i .generation
       → r ≡ (isnt (eqb live 1) and ltb generation 65535) → isOpen (getD (modelOf bs .slots) i (freeSlot 0)) ≡ r
   open-test live generation r l g e =
       ap₂ (λ (live generation : ℕ). isnt (eqb live 1) and ltb generation 65535) (slot-live ∙ sym l) (slot-generation ∙ sym g) ∙ sym e
 
-  pub named-test : (live found name : ℕ) (r : Bool) → live ≡ wordAt bs (slotPlace i + 1) → found ≡ wordAt bs (slotPlace i + 2)
+  pub named-test : (live found name : ℕ) (r : Bool) → live ≡ recordAt bs i .live → found ≡ recordAt bs i .name
       → r ≡ (eqb live 1 and eqb found name) → isNamed name (getD (modelOf bs .slots) i (freeSlot 0)) ≡ r
   named-test live found name r l f e =
       ap₂ (λ (live found : ℕ). eqb live 1 and eqb found name) (slot-live ∙ sym l) (slot-name ∙ sym f) ∙ sym e
@@ -124,24 +121,24 @@ module _ (bs : List ℕ) (id : ℕ) where
     at-pred : at ≡ pred (id % 65536)
     at-pred = omega arith
 
-    live-word : slotOf (modelOf bs) (id % 65536) .live ≡ wordAt bs (slotPlace at + 1)
+    live-word : slotOf (modelOf bs) (id % 65536) .live ≡ recordAt bs at .live
     live-word = ap (λ (k : ℕ). getD (modelOf bs .slots) k (freeSlot 0) .live) (sym at-pred) ∙ slot-live bs at (omega arith)
 
-    generation-word : slotOf (modelOf bs) (id % 65536) .generation ≡ wordAt bs (slotPlace at)
+    generation-word : slotOf (modelOf bs) (id % 65536) .generation ≡ recordAt bs at .generation
     generation-word = ap (λ (k : ℕ). getD (modelOf bs .slots) k (freeSlot 0) .generation) (sym at-pred) ∙ slot-generation bs at (omega arith)
 
-    pub unnamed-free : (wordAt bs (slotPlace at + 1) ≡ 1 → ⊥) → 0 ≡ slotNamed (modelOf bs) id
+    pub unnamed-free : (recordAt bs at .live ≡ 1 → ⊥) → 0 ≡ slotNamed (modelOf bs) id
     unnamed-free h =
         unnamed (and-second _ (and-second _ (and-first _ (ne-eqb (slotOf (modelOf bs) (id % 65536) .live) 1 (λ e. h (sym live-word ∙ e))))))
 
-    pub unnamed-old : (wordAt bs (slotPlace at) ≡ id / 65536 → ⊥) → 0 ≡ slotNamed (modelOf bs) id
+    pub unnamed-old : (recordAt bs at .generation ≡ id / 65536 → ⊥) → 0 ≡ slotNamed (modelOf bs) id
     unnamed-old h =
         unnamed
         (and-second _
         (and-second _
         (and-second _ (ne-eqb (slotOf (modelOf bs) (id % 65536) .generation) (id / 65536) (λ e. h (sym generation-word ∙ e))))))
 
-    pub named-live : wordAt bs (slotPlace at + 1) ≡ 1 → wordAt bs (slotPlace at) ≡ id / 65536 → id % 65536 ≡ slotNamed (modelOf bs) id
+    pub named-live : recordAt bs at .live ≡ 1 → recordAt bs at .generation ≡ id / 65536 → id % 65536 ≡ slotNamed (modelOf bs) id
     named-live l g =
         let all : names (modelOf bs) id ≡ true =
         both-and (le-leb 1 (id % 65536) (omega arith))

@@ -1,4 +1,4 @@
 pub mod Model
 pub mod Searches
 pub mod Answers
-pub mod Laws
+pub mod CallerAndSlot

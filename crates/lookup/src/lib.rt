@@ -137,8 +137,8 @@ pub fn open_slot(m: &[u8]) -> u32
     let s = tables::slot_count(m);
     let mut i: u32 = 0;
     while i < s {
-        let at = 130 + 40 * (i as usize);
-        if is_open(words::word(m, at + 1), words::word(m, at)) {
+        let at = i as usize;
+        if is_open(tables::slot_live(m, at), tables::slot_generation(m, at)) {
             return i + 1;
         }
         i += 1;
@@ -164,8 +164,8 @@ pub fn first_named(m: &[u8], name: u32) -> u32
     let s = tables::slot_count(m);
     let mut i: u32 = 0;
     while i < s {
-        let at = 130 + 40 * (i as usize);
-        if is_named(words::word(m, at + 1), words::word(m, at + 2), name) {
+        let at = i as usize;
+        if is_named(tables::slot_live(m, at), tables::slot_name(m, at), name) {
             return i + 1;
         }
         i += 1;
@@ -186,11 +186,11 @@ pub fn slot_named(m: &[u8], id: u32) -> u32
     if s < n {
         return 0;
     }
-    let at = 130 + 40 * ((n - 1) as usize);
-    if words::word(m, at + 1) != 1 {
+    let at = (n - 1) as usize;
+    if tables::slot_live(m, at) != 1 {
         return 0;
     }
-    if words::word(m, at) != id / rules::GENERATION_UNIT {
+    if tables::slot_generation(m, at) != id / rules::GENERATION_UNIT {
         return 0;
     }
     n

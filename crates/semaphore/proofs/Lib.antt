@@ -1,2 +1,2 @@
 pub mod Queue
-pub mod Steps
+pub mod TakeGive

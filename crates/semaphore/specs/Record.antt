@@ -18,7 +18,31 @@ use Rattle.semaphore.specs.declared.Flushed.{Flushed}
 
 abbrev pub slotFrom : Semaphore → Slot
 slotFrom s =
-    record { generation = s .generation; live = s .live; name = s .name; attributes = s .attributes; count = s .count; owner = s .owner; nest = s .nest; queue = take (s .waiters) (s .queue) }
+    record {
+      generation = s .generation;
+      live = s .live;
+      name = s .name;
+      attributes = s .attributes;
+      count = s .count;
+      owner = s .owner;
+      nest = s .nest;
+      queue = take (s .waiters) (s .queue);
+    }
+
+-- the record that stands for a slot, its queue filled up with 0
+abbrev pub recordOf : Slot → Semaphore
+recordOf s =
+    record {
+      generation = s .generation;
+      live = s .live;
+      name = s .name;
+      attributes = s .attributes;
+      count = s .count;
+      owner = s .owner;
+      nest = s .nest;
+      waiters = length (s .queue);
+      queue = fit 32 0 (s .queue);
+    }
 
 -- the queue has at most 32 waiters, and 0 behind them
 pub record Padded (s : Semaphore) : Type 0 where
@@ -46,17 +70,33 @@ pub record GivenIs (r : Given) (rule : rules.Given) : Type 0 where
 
 -- ---- the parts of a record that a step changes
 
-abbrev pub counting : Semaphore → ℕ → ℕ → ℕ → Semaphore
-counting s count owner nest =
-    record { generation = s .generation; live = s .live; name = s .name; attributes = s .attributes; count = count; owner = owner; nest = nest; waiters = s .waiters; queue = s .queue }
+abbrev pub withCount : Semaphore → ℕ → ℕ → ℕ → Semaphore
+withCount s count owner nest =
+    record {
+      generation = s .generation;
+      live = s .live;
+      name = s .name;
+      attributes = s .attributes;
+      count = count;
+      owner = owner;
+      nest = nest;
+      waiters = s .waiters;
+      queue = s .queue;
+    }
 
-abbrev pub queueing : Semaphore → ℕ → List ℕ → Semaphore
-queueing s waiters queue =
-    record { generation = s .generation; live = s .live; name = s .name; attributes = s .attributes; count = s .count; owner = s .owner; nest = s .nest; waiters = waiters; queue = queue }
-
-abbrev pub freeRecord : ℕ → Semaphore
-freeRecord g =
-    record { generation = g; live = 0; name = 0; attributes = 0; count = 0; owner = 0; nest = 0; waiters = 0; queue = fit 32 0 [] }
+abbrev pub withQueue : Semaphore → ℕ → List ℕ → Semaphore
+withQueue s waiters queue =
+    record {
+      generation = s .generation;
+      live = s .live;
+      name = s .name;
+      attributes = s .attributes;
+      count = s .count;
+      owner = s .owner;
+      nest = s .nest;
+      waiters = waiters;
+      queue = queue;
+    }
 
 -- ---- a queue without the tasks whose wait has ended
 

@@ -9,7 +9,7 @@ ghost use Rattle.rules.specs.Machine.{freeSlot};
 ghost use Rattle.rules.specs.Semaphore.{insertAt, ownedBy, polls, takeStep, passStep, giveStep, flushStep};
 ghost use Rattle.rules.specs.Calls.{newSemaphore};
 ghost use Rattle.rules.specs.Numbers.{isBinary, maximum};
-ghost use Rattle.semaphore.specs.Record.{slotFrom, counting, queueing, freeRecord, Padded, TasksOnly, Stands, TakenIs, GivenIs, FlushedIs, keep, KeptIs, slotKeeping};
+ghost use Rattle.semaphore.specs.Record.{slotFrom, recordOf, withCount, withQueue, Padded, TasksOnly, Stands, TakenIs, GivenIs, FlushedIs, keep, KeptIs, slotKeeping};
 
 pub struct Semaphore {
     pub generation: u32,
@@ -129,7 +129,7 @@ fn filtered(queue: [u32; 32], waiters: u32, expired: [bool; 32]) -> Kept
 
 // A slot that holds no semaphore.
 pub fn free(generation: u32) -> Semaphore
-    ensures { λ r. ⌜ (r ≡ freeRecord generation) × Stands r (freeSlot generation) ⌝ }
+    ensures { λ r. ⌜ (r ≡ recordOf (freeSlot generation)) × Stands r (freeSlot generation) ⌝ }
 {
     Semaphore {
         generation: generation,
@@ -166,13 +166,13 @@ pub fn created(generation: u32, caller: u32, name: u32, count: u32, attributes: 
     if count != 0 {
         return made;
     }
-    made.counted(count, caller, 1)
+    made.with_count(count, caller, 1)
 }
 
 impl Semaphore {
     // The same semaphore with another count, owner and nest.
-    fn counted(mut self, count: u32, owner: u32, nest: u32) -> Semaphore
-        ensures { λ r. ⌜ r ≡ counting self count owner nest ⌝ }
+    fn with_count(mut self, count: u32, owner: u32, nest: u32) -> Semaphore
+        ensures { λ r. ⌜ r ≡ withCount self count owner nest ⌝ }
     {
         self.count = count;
         self.owner = owner;
@@ -181,8 +181,8 @@ impl Semaphore {
     }
 
     // The same semaphore with another queue.
-    fn queued(mut self, waiters: u32, queue: [u32; 32]) -> Semaphore
-        ensures { λ r. ⌜ r ≡ queueing self waiters queue ⌝ }
+    fn with_queue(mut self, waiters: u32, queue: [u32; 32]) -> Semaphore
+        ensures { λ r. ⌜ r ≡ withQueue self waiters queue ⌝ }
     {
         self.waiters = waiters;
         self.queue = queue;
@@ -212,13 +212,13 @@ impl Semaphore {
     {
         if self.count >= 1 {
             if rules::is_binary(self.attributes) {
-                let owned = self.counted(self.count - 1, caller, 1);
+                let owned = self.with_count(self.count - 1, caller, 1);
                 return Taken {
                     status: rules::SUCCESSFUL,
                     semaphore: owned,
                 };
             }
-            let passed = self.counted(self.count - 1, self.owner, self.nest);
+            let passed = self.with_count(self.count - 1, self.owner, self.nest);
             return Taken {
                 status: rules::SUCCESSFUL,
                 semaphore: passed,
@@ -231,7 +231,7 @@ impl Semaphore {
                     semaphore: self,
                 };
             }
-            let nested = self.counted(self.count, self.owner, self.nest + 1);
+            let nested = self.with_count(self.count, self.owner, self.nest + 1);
             return Taken {
                 status: rules::SUCCESSFUL,
                 semaphore: nested,
@@ -245,7 +245,7 @@ impl Semaphore {
         }
         let queue = self.queue;
         let longer = inserted(queue, place, caller);
-        let joined = self.queued(self.waiters + 1, longer);
+        let joined = self.with_queue(self.waiters + 1, longer);
         Taken {
             status: rules::WAITING,
             semaphore: joined,
@@ -261,9 +261,9 @@ impl Semaphore {
             let queue = self.queue;
             let first = queue[0];
             let rest = advanced(queue);
-            let shorter = self.queued(self.waiters - 1, rest);
+            let shorter = self.with_queue(self.waiters - 1, rest);
             if rules::is_binary(self.attributes) {
-                let handed = shorter.counted(self.count, first, 1);
+                let handed = shorter.with_count(self.count, first, 1);
                 return Given {
                     status: rules::SUCCESSFUL,
                     woken: first,
@@ -284,7 +284,7 @@ impl Semaphore {
                 semaphore: self,
             };
         }
-        let raised = self.counted(self.count + 1, 0, 0);
+        let raised = self.with_count(self.count + 1, 0, 0);
         Given {
             status: rules::SUCCESSFUL,
             woken: 0,
@@ -308,7 +308,7 @@ impl Semaphore {
             };
         }
         if self.nest >= 2 {
-            let inner = self.counted(self.count, self.owner, self.nest - 1);
+            let inner = self.with_count(self.count, self.owner, self.nest - 1);
             return Given {
                 status: rules::SUCCESSFUL,
                 woken: 0,
@@ -323,7 +323,7 @@ impl Semaphore {
         requires { ⌜ Padded self ⌝ }
         ensures { λ r. ⌜ FlushedIs r (flushStep (slotFrom self)) ⌝ }
     {
-        let emptied = self.queued(0, [0; 32]);
+        let emptied = self.with_queue(0, [0; 32]);
         Flushed {
             status: 0,
             semaphore: emptied,
@@ -338,6 +338,6 @@ impl Semaphore {
         let queue = self.queue;
         let rest = filtered(queue, self.waiters, expired);
         let tasks = rest.tasks;
-        self.queued(rest.waiters, tasks)
+        self.with_queue(rest.waiters, tasks)
     }
 }

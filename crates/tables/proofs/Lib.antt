@@ -1,6 +1,6 @@
-pub mod LawsLayout
-pub mod LawsRead
-pub mod LawsStore
-pub mod LawsHolds
-pub mod LawsTold
-pub mod Stores
+pub mod LayoutWords
+pub mod LayoutRead
+pub mod LayoutHolds
+pub mod LayoutStore
+pub mod LayoutTest
+pub mod LoadStore

@@ -7,8 +7,8 @@ ghost use mathlib.Core.List.{[], _∷_};
 ghost use lib.ListN.{length, getD};
 ghost use lib.Seq.{sets};
 ghost use Rattle.words.specs.Words.{bytesOf, wordAt};
-ghost use Rattle.laws.specs.Rows.{tabulate};
-ghost use Rattle.tables.specs.Layout.{tablesLength, taskPlace, slotPlace, taskRow, recordRow, taskAt, headOf, recordAt, isQueueLaid, isLaid};
+ghost use Rattle.tables.specs.Codec.{taskRow, recordRow};
+ghost use Rattle.tables.specs.Layout.{tablesLength, taskPlace, slotPlace, taskAt, headOf, recordAt, isQueueLaid, isLaid};
 ghost use Rattle.laws.specs.All.{all};
 
 pub const TABLES_LENGTH: usize = 10760;
@@ -215,7 +215,7 @@ fn is_queue_laid(m: &[u8], i: usize) -> bool
     ensures { λ r. ⌜ r ≡ isQueueLaid (now (m .entry)) i ⌝ }
 {
     let at = SLOTS_AT + SLOT_WORDS * i;
-    let waiters = words::word(m, at + WAITERS) as usize;
+    let waiters = slot_waiters(m, i) as usize;
     if 32 < waiters {
         return false;
     }

@@ -13,7 +13,7 @@ use lib.Seq.{sets, drop-cons, drop-length, length-take-le, getD-take, getD-drop}
 use borrow.Author.Tests.{eq-eqb, eqb-true}
 use Rattle.laws.proofs.Choose.{tested, never}
 use Rattle.words.specs.Words.{bytesOfWord, bytesOf, wordAt, blank, Greatest}
-use Rattle.words.proofs.Laws.{blank-at, blank-of}
+use Rattle.words.proofs.WordsInBytes.{blank-at, blank-of}
 
 -- the bytes of a row's rest are those of its next word, and of the rest behind it
 next-word : (l row : List ℕ) (at k : ℕ) → k < length row

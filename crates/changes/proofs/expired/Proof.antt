@@ -7,7 +7,7 @@ use mathlib.Core.Bool.{false}
 use mathlib.Core.List.{map}
 use lib.ListN.{length, length-set, getD, replicate}
 use Rattle.rules.specs.Calls.{expires}
-use Rattle.changes.proofs.Mapped.{flagged-none, flagged-more}
+use Rattle.laws.proofs.Mapped.{filled-none, filled-more}
 use Rattle.changes.proofs.Ticks.{FlaggedUpTo, flag-read, flags-read}
 use Rattle.changes.proofs.expired.Statement.{statement}
 use Rattle.changes.proofs.expired.Tie as tie
@@ -19,7 +19,7 @@ abbrev μ-loop : tie.MeasureT-loop
 μ-loop m flags₀ i₀ flags i = 32 - i
 
 loop-holds : tie.Need-loop-holds Inv-loop μ-loop
-loop-holds c = (omega arith, omega arith, λ t e. flagged-none (λ j. getD (map (λ v. expires v) (t .tasks)) j false) (replicate 32 false))
+loop-holds c = (omega arith, omega arith, λ t e. filled-none (λ j. getD (map (λ v. expires v) (t .tasks)) j false) false (replicate 32 false))
 
 load-task-requires : tie.Need-load-task-requires Inv-loop μ-loop
 load-task-requires c κs = search needs
@@ -41,7 +41,7 @@ loop-again c =
     let turn = c .before .before .before in
     let m = turn .before .before .args .m .now in
     let read = flag-read m (turn .loop .i) _ _ (λ k. omega (arith, turn .before .shared-slice-known .given k)) (omega arith) (c .before .load-task .ensures) (c .expires .ensures) in
-    (omega arith, simp length-set (omega arith), λ t e. flagged-more _ (turn .loop .flags) (turn .loop .i) _ (omega arith) (read t e) (turn .loop .inv .2 t e))
+    (omega arith, simp length-set (omega arith), λ t e. filled-more _ false (turn .loop .flags) (turn .loop .i) _ (omega arith) (read t e) (turn .loop .inv .2 t e))
 
 returns : tie.Need-returns Inv-loop μ-loop
 returns c =

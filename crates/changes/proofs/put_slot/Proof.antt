@@ -1,7 +1,7 @@
 -- `changes::put_slot` meets its contract: one record stored is one slot put.
 use borrow.Author.Needs.{needs}
 use native.Mathlib.Omega.{arith}
-use Rattle.changes.proofs.Laws.{slot-put}
+use Rattle.changes.proofs.PutWakeStart.{slot-put}
 use Rattle.changes.proofs.put_slot.Statement.{statement}
 use Rattle.changes.proofs.put_slot.Tie as tie
 

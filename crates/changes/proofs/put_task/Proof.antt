@@ -1,7 +1,7 @@
 -- `changes::put_task` meets its contract: one row stored is one task put.
 use borrow.Author.Needs.{needs}
 use native.Mathlib.Omega.{arith}
-use Rattle.changes.proofs.Laws.{task-put}
+use Rattle.changes.proofs.PutWakeStart.{task-put}
 use Rattle.changes.proofs.put_task.Statement.{statement}
 use Rattle.changes.proofs.put_task.Tie as tie
 

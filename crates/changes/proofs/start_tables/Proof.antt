@@ -4,7 +4,7 @@ use mathlib.Core.Path.{_≡_}
 use Prim.Native.Nat.{_≤_, _-_}
 use native.Mathlib.Omega.{arith}
 use lib.ListN.{length}
-use Rattle.changes.proofs.Laws.{StartedUpTo, started-more, started-all}
+use Rattle.changes.proofs.PutWakeStart.{StartedUpTo, started-more, started-all}
 use Rattle.changes.proofs.start_tables.Statement.{statement}
 use Rattle.changes.proofs.start_tables.Tie as tie
 

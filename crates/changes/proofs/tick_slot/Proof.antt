@@ -6,17 +6,8 @@ use Rattle.changes.proofs.TickSlots.{waiting-same}
 use Rattle.changes.proofs.tick_slot.Statement.{statement}
 use Rattle.changes.proofs.tick_slot.Tie as tie
 
-mul-at : tie.Need-mul-at
-mul-at c = search needs
-
-add-at : tie.Need-add-at
-add-at c = search needs
-
-add-word : tie.Need-add-word
-add-word c = search needs
-
-word-requires : tie.Need-word-requires
-word-requires c κs = search needs
+slot-waiters-requires : tie.Need-slot-waiters-requires
+slot-waiters-requires c κs = search needs
 
 same-length : tie.Need-same-length
 same-length c = search needs
@@ -25,7 +16,7 @@ returns : tie.Need-returns
 returns c =
     let start = c .before .before .before in
     let first = start .before .args in
-    slot-quiet (first .m .now) (first .i) (first .expired) (λ k. omega (arith, start .slice-known .given k)) (omega arith) _ (c .before .word .ensures) (omega arith)
+    slot-quiet (first .m .now) (first .i) (first .expired) (λ k. omega (arith, start .slice-known .given k)) (omega arith) _ (c .before .slot-waiters .ensures) (omega arith)
 
 load-slot-requires : tie.Need-load-slot-requires
 load-slot-requires c κs = search needs
@@ -54,10 +45,7 @@ pub tick-slot-spec : {M : Type 1} → statement M
 tick-slot-spec =
     tie.close
     (tie.spec
-    mul-at
-    add-at
-    add-word
-    word-requires
+    slot-waiters-requires
     same-length
     returns
     load-slot-requires

@@ -4,7 +4,7 @@ use mathlib.Core.Path.{_≡_}
 use Prim.Native.Nat.{_≤_, _-_}
 use native.Mathlib.Omega.{arith}
 use lib.ListN.{length}
-use Rattle.words.proofs.Laws.{Bytes}
+use Rattle.words.proofs.WordsInBytes.{Bytes}
 use Rattle.changes.proofs.TickSlots.{KeptUpTo, kept-more, kept-all, sized, few-slots, record-waiting}
 use Rattle.changes.proofs.tick_slots.Statement.{statement}
 use Rattle.changes.proofs.tick_slots.Tie as tie

@@ -1,7 +1,7 @@
 -- `changes::tick_tables` meets its contract: the flags, the slots and then the tasks.
 use borrow.Author.Needs.{needs}
 use native.Mathlib.Omega.{arith}
-use Rattle.words.proofs.Laws.{Bytes}
+use Rattle.words.proofs.WordsInBytes.{Bytes}
 use Rattle.changes.proofs.TickSlots.{sized, few-tasks, all-ticked}
 use Rattle.changes.proofs.tick_tables.Statement.{statement}
 use Rattle.changes.proofs.tick_tables.Tie as tie

@@ -2,7 +2,7 @@
 use borrow.Author.Needs.{needs}
 use native.Mathlib.Omega.{arith}
 use Rattle.rules.specs.Calls.{readied}
-use Rattle.changes.proofs.Laws.{task-woken}
+use Rattle.changes.proofs.PutWakeStart.{task-woken}
 use Rattle.changes.proofs.wake.Statement.{statement}
 use Rattle.changes.proofs.wake.Tie as tie
 

@@ -6,7 +6,7 @@ use native.Mathlib.Omega.{arith}
 use lib.ListN.{length, take}
 use Rattle.rules.specs.Calls.{wakeAll}
 use Rattle.tables.specs.Layout.{laid}
-use Rattle.changes.proofs.Laws.{Woken, woken-none, woken-more}
+use Rattle.changes.proofs.PutWakeStart.{Woken, woken-none, woken-more}
 use Rattle.changes.proofs.wake_all.Statement.{statement}
 use Rattle.changes.proofs.wake_all.Tie as tie
 

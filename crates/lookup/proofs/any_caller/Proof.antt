@@ -4,7 +4,7 @@ use mathlib.Core.Path.{sym, _∙_}
 use borrow.Author.Tests.{eq-eqb, ne-eqb}
 use Rattle.laws.proofs.Choose.{if-yes, if-no}
 use Rattle.tables.specs.Layout.{modelOf}
-use Rattle.lookup.proofs.Laws.{any-caller-task}
+use Rattle.lookup.proofs.CallerAndSlot.{any-caller-task}
 use Rattle.lookup.proofs.any_caller.Statement.{statement}
 use Rattle.lookup.proofs.any_caller.Tie as tie
 

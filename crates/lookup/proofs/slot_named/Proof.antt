@@ -20,25 +20,16 @@ sub-at c = search needs
 cast-at : tie.Need-cast-at
 cast-at c = search needs
 
-mul-at : tie.Need-mul-at
-mul-at c = search needs
-
-add-at : tie.Need-add-at
-add-at c = search needs
-
-add-word : tie.Need-add-word
-add-word c = search needs
-
-word-requires : tie.Need-word-requires
-word-requires c κs = search needs
+slot-live-requires : tie.Need-slot-live-requires
+slot-live-requires c κs = search needs
 
 returns-3 : tie.Need-returns-3
 returns-3 c =
     let first = c .before .before .before .before .before .before .args in
     unnamed-free (first .m .now) (first .id) (c .before .before .before .if1 .left) (omega arith) (omega arith)
 
-word-requires-2 : tie.Need-word-requires-2
-word-requires-2 c κs = search needs
+slot-generation-requires : tie.Need-slot-generation-requires
+slot-generation-requires c κs = search needs
 
 returns-4 : tie.Need-returns-4
 returns-4 c =
@@ -59,11 +50,8 @@ slot-named-spec =
     returns-2
     sub-at
     cast-at
-    mul-at
-    add-at
-    add-word
-    word-requires
+    slot-live-requires
     returns-3
-    word-requires-2
+    slot-generation-requires
     returns-4
     returns-5)

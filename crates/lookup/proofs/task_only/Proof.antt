@@ -4,7 +4,7 @@ use mathlib.Core.Path.{sym, _∙_}
 use borrow.Author.Tests.{eq-eqb, ne-eqb}
 use Rattle.laws.proofs.Choose.{if-yes}
 use Rattle.tables.specs.Layout.{modelOf}
-use Rattle.lookup.proofs.Laws.{task-only-task}
+use Rattle.lookup.proofs.CallerAndSlot.{task-only-task}
 use Rattle.lookup.proofs.task_only.Statement.{statement}
 use Rattle.lookup.proofs.task_only.Tie as tie
 

@@ -4,7 +4,7 @@ use mathlib.Core.Path.{sym, _∙_}
 use borrow.Author.Tests.{eq-eqb, ne-eqb, not-true, not-false}
 use Rattle.laws.proofs.Choose.{if-yes, if-no, both-and}
 use Rattle.laws.specs.Rows.{fit}
-use Rattle.semaphore.proofs.Steps.{stands-as, new-unowned, new-owned}
+use Rattle.semaphore.proofs.TakeGive.{stands-as, new-unowned, new-owned}
 use Rattle.semaphore.proofs.created.Statement.{statement}
 use Rattle.semaphore.proofs.created.Tie as tie
 
@@ -28,16 +28,16 @@ returns-2 c =
     let binary = sym (c .before .before .is-binary .ensures) ∙ not-false _ (c .before .if1 .left) in
     new-unowned (call .generation) (call .caller) (call .name) (call .count) (call .attributes) (if-yes _ _ binary ∙ ne-eqb _ _ (c .if2 .taken))
 
-counted-requires : tie.Need-counted-requires
-counted-requires c κs = search needs
+with-count-requires : tie.Need-with-count-requires
+with-count-requires c κs = search needs
 
 returns-3 : tie.Need-returns-3
 unfolding fit
 returns-3 c =
     let call = c .before .before .before .before .args in
     let binary = sym (c .before .before .before .is-binary .ensures) ∙ not-false _ (c .before .before .if1 .left) in
-    stands-as (c .counted .ensures) (new-owned (call .generation) (call .caller) (call .name) (call .count) (call .attributes) (both-and binary (eq-eqb _ _ (c .before .if2 .left))))
+    stands-as (c .with-count .ensures) (new-owned (call .generation) (call .caller) (call .name) (call .count) (call .attributes) (both-and binary (eq-eqb _ _ (c .before .if2 .left))))
 
 pub created-spec : {M : Type 1} → statement M
 created-spec =
-    tie.close (tie.spec add-t7 is-binary-requires returns returns-2 counted-requires returns-3)
+    tie.close (tie.spec add-t7 is-binary-requires returns returns-2 with-count-requires returns-3)

@@ -3,7 +3,7 @@ use borrow.Author.Needs.{needs}
 use mathlib.Core.Path.{_∙_, sym}
 use native.Mathlib.Omega.{arith}
 use borrow.Author.Tests.{not-true, not-false}
-use Rattle.tables.proofs.Stores.{wrong-length, tasks-beyond, slots-beyond, tasks-not-blank, queues-not-laid, slots-tested}
+use Rattle.tables.proofs.LoadStore.{wrong-length, tasks-beyond, slots-beyond, tasks-not-blank, queues-not-laid, slots-tested}
 use Rattle.tables.proofs.is_layout.Statement.{statement}
 use Rattle.tables.proofs.is_layout.Tie as tie
 

@@ -1,7 +1,7 @@
 -- `tables::is_queue_laid` meets its contract, by the number of waiters.
 use borrow.Author.Needs.{needs}
 use native.Mathlib.Omega.{arith}
-use Rattle.tables.proofs.Stores.{queue-long, queue-within}
+use Rattle.tables.proofs.LoadStore.{queue-long, queue-within}
 use Rattle.tables.proofs.is_queue_laid.Statement.{statement}
 use Rattle.tables.proofs.is_queue_laid.Tie as tie
 
@@ -11,11 +11,8 @@ mul-at c = search needs
 add-at : tie.Need-add-at
 add-at c = search needs
 
-add-word : tie.Need-add-word
-add-word c = search needs
-
-word-requires : tie.Need-word-requires
-word-requires c κs = search needs
+slot-waiters-requires : tie.Need-slot-waiters-requires
+slot-waiters-requires c κs = search needs
 
 cast-waiters : tie.Need-cast-waiters
 cast-waiters c = search needs
@@ -23,7 +20,7 @@ cast-waiters c = search needs
 returns : tie.Need-returns
 returns c =
     let first = c .before .before .before .args in
-    queue-long (first .m .now) (first .i) (c .before .word .result) (c .before .word .ensures) (omega arith)
+    queue-long (first .m .now) (first .i) (c .before .slot-waiters .result) (c .before .slot-waiters .ensures) (omega arith)
 
 add-is-blank : tie.Need-add-is-blank
 add-is-blank c = search needs
@@ -40,7 +37,7 @@ is-blank-requires c κs = search needs
 returns-2 : tie.Need-returns-2
 returns-2 c =
     let first = c .before .before .before .before .args in
-    queue-within (first .m .now) (first .i) (c .before .before .word .result) (c .before .before .word .ensures) _ (omega arith) (c .is-blank .ensures)
+    queue-within (first .m .now) (first .i) (c .before .before .slot-waiters .result) (c .before .before .slot-waiters .ensures) _ (omega arith) (c .is-blank .ensures)
 
 pub is-queue-laid-spec : {M : Type 1} → statement M
 is-queue-laid-spec =
@@ -48,8 +45,7 @@ is-queue-laid-spec =
     (tie.spec
     mul-at
     add-at
-    add-word
-    word-requires
+    slot-waiters-requires
     cast-waiters
     returns
     add-is-blank

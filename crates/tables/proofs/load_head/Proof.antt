@@ -1,6 +1,6 @@
 -- `tables::load_head` meets its contract: the eight words before a queue.
 use borrow.Author.Needs.{needs}
-use Rattle.tables.proofs.Stores.{head-loaded}
+use Rattle.tables.proofs.LoadStore.{head-loaded}
 use Rattle.tables.proofs.load_head.Statement.{statement}
 use Rattle.tables.proofs.load_head.Tie as tie
 

@@ -1,7 +1,7 @@
 -- `tables::load_slot` meets its contract: the words before the queue, and the queue.
 use borrow.Author.Needs.{needs}
 use Rattle.tables.specs.Layout.{recordAt}
-use Rattle.tables.proofs.Stores.{slot-loaded}
+use Rattle.tables.proofs.LoadStore.{slot-loaded}
 use Rattle.tables.proofs.load_slot.Statement.{statement}
 use Rattle.tables.proofs.load_slot.Tie as tie
 

@@ -1,6 +1,6 @@
 -- `tables::load_task` meets its contract: four words make a task.
 use borrow.Author.Needs.{needs}
-use Rattle.tables.proofs.Stores.{task-loaded}
+use Rattle.tables.proofs.LoadStore.{task-loaded}
 use Rattle.tables.proofs.load_task.Statement.{statement}
 use Rattle.tables.proofs.load_task.Tie as tie
 

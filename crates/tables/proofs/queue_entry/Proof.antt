@@ -1,10 +1,7 @@
 -- `tables::queue_entry` meets its contract: one of a queue's words.
 use borrow.Author.Needs.{needs}
-use mathlib.Core.Path.{sym, _∙_}
-use Prim.Native.Nat.{_+_}
-use Rattle.words.specs.Words.{wordAt}
-use Rattle.laws.proofs.Fit.{getD-tabulate}
-use Rattle.tables.specs.Layout.{slotPlace, recordAt}
+use mathlib.Core.Path.{_∙_}
+use Rattle.tables.proofs.LoadStore.{queue-word}
 use Rattle.tables.proofs.queue_entry.Statement.{statement}
 use Rattle.tables.proofs.queue_entry.Tie as tie
 
@@ -24,10 +21,7 @@ word-requires : tie.Need-word-requires
 word-requires c κs = search needs
 
 returns : tie.Need-returns
-unfolding recordAt
-returns c =
-    let first = c .before .before .args in
-    c .word .ensures ∙ sym (getD-tabulate 32 (λ k. wordAt (first .m .now) (slotPlace (first .i) + 8 + k)) (first .k) 0 (search needs))
+returns c = c .word .ensures ∙ queue-word (c .before .before .args .m .now) (c .before .before .args .i) (c .before .before .args .k) (search needs)
 
 pub queue-entry-spec : {M : Type 1} → statement M
 queue-entry-spec = tie.close (tie.spec mul-word add-word add-word-2 add-word-3 word-requires returns)

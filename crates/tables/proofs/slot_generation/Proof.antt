@@ -1,6 +1,6 @@
 -- `tables::slot_generation` meets its contract: a slot's first word.
 use borrow.Author.Needs.{needs}
-use Rattle.tables.specs.Layout.{recordAt}
+use Rattle.tables.proofs.LoadStore.{generation-loaded}
 use Rattle.tables.proofs.slot_generation.Statement.{statement}
 use Rattle.tables.proofs.slot_generation.Tie as tie
 
@@ -14,8 +14,7 @@ word-requires : tie.Need-word-requires
 word-requires c κs = search needs
 
 returns : tie.Need-returns
-unfolding recordAt
-returns c = c .word .ensures
+returns c = generation-loaded (c .before .before .args .m .now) (c .before .before .args .i) _ (c .word .ensures)
 
 pub slot-generation-spec : {M : Type 1} → statement M
 slot-generation-spec = tie.close (tie.spec mul-word add-word word-requires returns)

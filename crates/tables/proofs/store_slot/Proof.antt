@@ -4,7 +4,7 @@ use mathlib.Core.Path.{_≡_, sym, _∙_}
 use Prim.Native.Nat.{ℕ, _+_, _*_}
 use lib.ListN.{length, length-map}
 use native.Mathlib.Omega.{arith}
-use Rattle.tables.proofs.Stores.{slot-stored}
+use Rattle.tables.proofs.LoadStore.{slot-stored}
 use Rattle.tables.proofs.store_slot.Statement.{statement}
 use Rattle.tables.proofs.store_slot.Tie as tie
 

@@ -2,7 +2,7 @@
 use borrow.Author.Needs.{needs}
 use mathlib.Core.Path.{sym, _∙_}
 use Rattle.semaphore.specs.Record.{slotFrom}
-use Rattle.semaphore.proofs.Steps.{stands-itself, stands-counted, stands-as, gave, given-as, give-unowned, give-refused, give-inner, give-outer}
+use Rattle.semaphore.proofs.TakeGive.{stands-itself, stands-count, stands-as, gave, given-as, give-unowned, give-refused, give-inner, give-outer}
 use borrow.Author.Tests.{not-true, not-false}
 use Rattle.semaphore.proofs.Semaphore.give.Statement.{statement}
 use Rattle.semaphore.proofs.Semaphore.give.Tie as tie
@@ -31,11 +31,11 @@ returns-2 c =
     gave (give-refused (slotFrom (start .args .self)) (start .args .caller) binary unheld)
     (stands-itself (start .pre .0))
 
-sub-counted : tie.Need-sub-counted
-sub-counted c = search needs
+sub-with-count : tie.Need-sub-with-count
+sub-with-count c = search needs
 
-counted-requires : tie.Need-counted-requires
-counted-requires c κs = search needs
+with-count-requires : tie.Need-with-count-requires
+with-count-requires c κs = search needs
 
 returns-3 : tie.Need-returns-3
 returns-3 c =
@@ -43,7 +43,7 @@ returns-3 c =
     let holds = sym (c .before .before .before .before .before .is-held-by .ensures) ∙ not-false _ (c .before .before .before .before .if2 .left) in
     let nested = c .before .before .if3 .taken in
     gave (give-inner (slotFrom (start .args .self)) (start .args .caller) holds nested)
-    (stands-as (c .counted .ensures) (stands-counted (stands-itself (start .pre .0)) _ _ _))
+    (stands-as (c .with-count .ensures) (stands-count (stands-itself (start .pre .0)) _ _ _))
 
 passed-on-requires-2 : tie.Need-passed-on-requires-2
 passed-on-requires-2 c κs = search needs
@@ -65,8 +65,8 @@ give-spec =
     returns
     is-held-by-requires
     returns-2
-    sub-counted
-    counted-requires
+    sub-with-count
+    with-count-requires
     returns-3
     passed-on-requires-2
     returns-4)

@@ -2,7 +2,7 @@
 use borrow.Author.Needs.{needs}
 use mathlib.Core.Path.{sym, _∙_}
 use Rattle.semaphore.specs.Record.{slotFrom}
-use Rattle.semaphore.proofs.Steps.{unheld-class, unheld-other, unheld-nobody, held-owner}
+use Rattle.semaphore.proofs.TakeGive.{unheld-class, unheld-other, unheld-nobody, held-owner}
 use borrow.Author.Tests.{not-true, not-false}
 use Rattle.semaphore.proofs.Semaphore.is_held_by.Statement.{statement}
 use Rattle.semaphore.proofs.Semaphore.is_held_by.Tie as tie

@@ -4,7 +4,7 @@ use mathlib.Core.Path.{sym, _∙_}
 use native.Mathlib.Omega.{arith}
 use lib.Seq.{getD-take}
 use Rattle.semaphore.specs.Record.{slotFrom}
-use Rattle.semaphore.proofs.Steps.{stands-itself, stands-counted, stands-as, stands-left, length-queue, gave, pass-owned, pass-handed, pass-full, pass-raised}
+use Rattle.semaphore.proofs.TakeGive.{stands-itself, stands-count, stands-as, stands-left, length-queue, gave, pass-owned, pass-handed, pass-full, pass-raised}
 use Prim.Native.Nat.{_≤_, _<_}
 use lib.ListN.{length}
 use Rattle.semaphore.proofs.Semaphore.passed_on.Statement.{statement}
@@ -16,14 +16,14 @@ array-read-first c = search needs
 advanced-requires : tie.Need-advanced-requires
 advanced-requires c κs = search needs
 
-queued-requires : tie.Need-queued-requires
-queued-requires c κs = search needs
+with-queue-requires : tie.Need-with-queue-requires
+with-queue-requires c κs = search needs
 
 is-binary-requires : tie.Need-is-binary-requires
 is-binary-requires c κs = search needs
 
-counted-requires : tie.Need-counted-requires
-counted-requires c κs = search needs
+with-count-requires : tie.Need-with-count-requires
+with-count-requires c κs = search needs
 
 returns : tie.Need-returns
 returns c =
@@ -34,8 +34,8 @@ returns c =
     let first = getD-take (s .waiters) (s .queue) 0 0 (omega arith) in
     let binary = sym (c .before .before .is-binary .ensures) ∙ c .before .if2 .taken in
     gave (pass-owned (slotFrom s) some _ first binary)
-    (stands-as (c .counted .ensures)
-    (stands-counted (stands-as (c .before .before .before .queued .ensures) (stands-left s p _ (c .before .before .before .before .before .advanced .ensures))) _ _ _))
+    (stands-as (c .with-count .ensures)
+    (stands-count (stands-as (c .before .before .before .with-queue .ensures) (stands-left s p _ (c .before .before .before .before .before .advanced .ensures))) _ _ _))
 
 returns-2 : tie.Need-returns-2
 returns-2 c =
@@ -46,7 +46,7 @@ returns-2 c =
     let first = getD-take (s .waiters) (s .queue) 0 0 (omega arith) in
     let other = sym (c .before .is-binary .ensures) ∙ c .if2 .left in
     gave (pass-handed (slotFrom s) some _ first other)
-    (stands-as (c .before .before .queued .ensures) (stands-left s p _ (c .before .before .before .before .advanced .ensures)))
+    (stands-as (c .before .before .with-queue .ensures) (stands-left s p _ (c .before .before .before .before .advanced .ensures)))
 
 maximum-requires : tie.Need-maximum-requires
 maximum-requires c κs = search needs
@@ -61,11 +61,11 @@ returns-3 c =
     gave (pass-full (slotFrom s) none most)
     (stands-itself p)
 
-add-counted : tie.Need-add-counted
-add-counted c = search needs
+add-with-count : tie.Need-add-with-count
+add-with-count c = search needs
 
-counted-requires-2 : tie.Need-counted-requires-2
-counted-requires-2 c κs = search needs
+with-count-requires-2 : tie.Need-with-count-requires-2
+with-count-requires-2 c κs = search needs
 
 returns-4 : tie.Need-returns-4
 returns-4 c =
@@ -74,7 +74,7 @@ returns-4 c =
     let p = start .pre .0 in
     let none : length (slotFrom s .queue) < 1 = omega (arith, length-queue s p) in
     gave (pass-raised (slotFrom s) none (λ e. c .before .before .if3 .left (e ∙ sym (c .before .before .before .before .maximum .ensures))))
-    (stands-as (c .counted2 .ensures) (stands-counted (stands-itself p) _ _ _))
+    (stands-as (c .with-count2 .ensures) (stands-count (stands-itself p) _ _ _))
 
 pub passed-on-spec : {M : Type 1} → statement M
 passed-on-spec =
@@ -82,13 +82,13 @@ passed-on-spec =
     (tie.spec
     array-read-first
     advanced-requires
-    queued-requires
+    with-queue-requires
     is-binary-requires
-    counted-requires
+    with-count-requires
     returns
     returns-2
     maximum-requires
     returns-3
-    add-counted
-    counted-requires-2
+    add-with-count
+    with-count-requires-2
     returns-4)

@@ -19,7 +19,7 @@ use Rattle.rules.specs.Semaphore as rules
 use Rattle.rules.specs.Calls.{newSemaphore}
 use Rattle.semaphore.specs.declared.Semaphore.{Semaphore}
 use Rattle.semaphore.specs.declared.Given.{Given}
-use Rattle.semaphore.specs.Record.{slotFrom, counting, queueing, Padded, Stands, TakenIs, GivenIs}
+use Rattle.semaphore.specs.Record.{slotFrom, recordOf, withCount, withQueue, Padded, Stands, TakenIs, GivenIs}
 use Rattle.semaphore.proofs.Queue.{held, insert-fit, length-insert, drop-fit}
 
 -- the tasks that wait
@@ -35,15 +35,15 @@ heldBy s caller = isBinary (s .attributes) and ownedBy s caller
 pub stands-itself : {s : Semaphore} → Padded s → Stands s (slotFrom s)
 stands-itself p = record { same = refl; padded = p }
 
-pub stands-counted : {s : Semaphore} {slot : Slot} → Stands s slot → (count owner nest : ℕ) → Stands (counting s count owner nest) (rules.counted slot count owner nest (slot .queue))
-stands-counted st count owner nest =
+pub stands-count : {s : Semaphore} {slot : Slot} → Stands s slot → (count owner nest : ℕ) → Stands (withCount s count owner nest) (rules.counted slot count owner nest (slot .queue))
+stands-count st count owner nest =
     record {
       same = ap (λ (t : Slot). rules.counted t count owner nest (t .queue)) (st .same);
       padded = record { few = st .padded .few; filled = st .padded .filled };
     }
 
-pub stands-queued : (s : Semaphore) (w : ℕ) (queue qs : List ℕ) → queue ≡ fit 32 0 qs → w ≡ length qs → length qs ≤ 32 → Stands (queueing s w queue) (requeued (slotFrom s) qs)
-stands-queued s w queue qs e l few =
+pub stands-queue : (s : Semaphore) (w : ℕ) (queue qs : List ℕ) → queue ≡ fit 32 0 qs → w ≡ length qs → length qs ≤ 32 → Stands (withQueue s w queue) (requeued (slotFrom s) qs)
+stands-queue s w queue qs e l few =
     let same : take w queue ≡ qs = rw e (held 32 0 qs w l few) in
     record {
       same = ap (λ (q : List ℕ). requeued (slotFrom s) q) same;
@@ -61,20 +61,20 @@ module _ (s : Semaphore) (p : Padded s) where
       let full : length (s .queue) ≡ 32 = ap length (p .filled) ∙ length-fit 32 0 (waitersOf s) in
       omega (arith, length-take (s .waiters) (s .queue), p .few)
 
-  pub stands-joined : (place q : ℕ) (queue : List ℕ) → s .waiters < 32 → place ≤ s .waiters → queue ≡ fit 32 0 (insertAt place q (s .queue)) → Stands (queueing s (s .waiters + 1) queue) (requeued (slotFrom s) (insertAt place q (waitersOf s)))
+  pub stands-joined : (place q : ℕ) (queue : List ℕ) → s .waiters < 32 → place ≤ s .waiters → queue ≡ fit 32 0 (insertAt place q (s .queue)) → Stands (withQueue s (s .waiters + 1) queue) (requeued (slotFrom s) (insertAt place q (waitersOf s)))
   stands-joined place q queue h l e =
       let more : length (insertAt place q (waitersOf s)) ≡ _ = length-insert q place (waitersOf s) (omega (arith, length-queue)) in
-      stands-queued s (s .waiters + 1) queue (insertAt place q (waitersOf s))
+      stands-queue s (s .waiters + 1) queue (insertAt place q (waitersOf s))
       (e
       ∙ ap (λ (xs : List ℕ). fit 32 0 (insertAt place q xs)) (p .filled)
       ∙ insert-fit q 32 32 place (waitersOf s) (omega (arith, length-queue)) (omega (arith, length-queue)))
       (omega (arith, length-queue))
       (omega (arith, length-queue))
 
-  pub stands-left : (queue : List ℕ) → queue ≡ fit 32 0 (drop 1 (s .queue)) → Stands (queueing s (s .waiters - 1) queue) (requeued (slotFrom s) (drop 1 (waitersOf s)))
+  pub stands-left : (queue : List ℕ) → queue ≡ fit 32 0 (drop 1 (s .queue)) → Stands (withQueue s (s .waiters - 1) queue) (requeued (slotFrom s) (drop 1 (waitersOf s)))
   stands-left queue e =
       let less : length (drop 1 (waitersOf s)) ≡ _ = length-drop 1 (waitersOf s) in
-      stands-queued s (s .waiters - 1) queue (drop 1 (waitersOf s))
+      stands-queue s (s .waiters - 1) queue (drop 1 (waitersOf s))
       (e
       ∙ ap (λ (xs : List ℕ). fit 32 0 (drop 1 xs)) (p .filled)
       ∙ drop-fit 32 32 (waitersOf s) (omega (arith, length-queue, p .few)))
@@ -199,23 +199,20 @@ module _ (s : Slot) where
 
 -- ---- a new semaphore
 
-abbrev pub newRecord : (generation name count attributes owner nest : ℕ) → Semaphore
-newRecord generation name count attributes owner nest =
-    record { generation = generation + 1; live = 1; name = name; attributes = attributes; count = count; owner = owner; nest = nest; waiters = 0; queue = fit 32 0 [] }
-
 module _ (generation caller name count attributes : ℕ) where
-  pub new-unowned : (isBinary attributes and eqb count 0) ≡ false → Stands (newRecord generation name count attributes 0 0) (newSemaphore generation caller name count attributes)
-  unfolding newSemaphore
-  new-unowned e =
-      record {
-        same = λ i. record { generation = generation + 1; live = 1; name = name; attributes = attributes; count = count; owner = sym (if-no caller 0 e) i; nest = sym (if-no 1 0 e) i; queue = [] };
-        padded = record { few = omega arith; filled = refl };
-      }
+  -- with its owner and nest
+  abbrev pub newSlot : ℕ → ℕ → Slot
+  newSlot owner nest =
+      record { generation = generation + 1; live = 1; name = name; attributes = attributes; count = count; owner = owner; nest = nest; queue = [] }
 
-  pub new-owned : (isBinary attributes and eqb count 0) ≡ true → Stands (newRecord generation name count attributes caller 1) (newSemaphore generation caller name count attributes)
+  stands-new : (owner nest : ℕ) → newSlot owner nest ≡ newSemaphore generation caller name count attributes
+      → Stands (recordOf (newSlot owner nest)) (newSemaphore generation caller name count attributes)
+  stands-new owner nest e = record { same = e; padded = record { few = omega arith; filled = refl } }
+
+  pub new-unowned : (isBinary attributes and eqb count 0) ≡ false → Stands (recordOf (newSlot 0 0)) (newSemaphore generation caller name count attributes)
   unfolding newSemaphore
-  new-owned e =
-      record {
-        same = λ i. record { generation = generation + 1; live = 1; name = name; attributes = attributes; count = count; owner = sym (if-yes caller 0 e) i; nest = sym (if-yes 1 0 e) i; queue = [] };
-        padded = record { few = omega arith; filled = refl };
-      }
+  new-unowned e = stands-new 0 0 (sym λ i. newSlot (if-no caller 0 e i) (if-no 1 0 e i))
+
+  pub new-owned : (isBinary attributes and eqb count 0) ≡ true → Stands (recordOf (newSlot caller 1)) (newSemaphore generation caller name count attributes)
+  unfolding newSemaphore
+  new-owned e = stands-new caller 1 (sym λ i. newSlot (if-yes caller 0 e i) (if-yes 1 0 e i))

@@ -1,47 +1,24 @@
 -- What the loads, the stores and the tests of the tables come to, on plain lists.
-use mathlib.Core.Path.{_≡_, ap, sym, _∙_}
+use mathlib.Core.Path.{_≡_, refl, ap, sym, _∙_}
 use mathlib.Core.Bool.{Bool, true, false}
 use mathlib.Core.List.{List, [], _∷_}
 use Prim.Native.Nat.{ℕ, _+_, _*_, _≤_, _<_}
-use native.Mathlib.Nat.{not-suc-le-zero}
-use native.Mathlib.Decide.{ℕ-discrete}
 use native.Mathlib.Omega.{arith}
 use lib.Dec.{leb}
-use lib.ListN.{length, getD, set}
-use lib.Seq.{sets, ext-getD, getD-set-same, getD-set-other}
+use lib.ListN.{length, getD, drop}
+use lib.Seq.{sets}
 use borrow.Author.Tests.{le-leb, lt-leb, eq-eqb, ne-eqb}
 use Rattle.laws.specs.Choose.{_and_}
 use Rattle.laws.proofs.Choose.{if-yes, if-no}
 use Rattle.laws.specs.All.{all}
 use Rattle.laws.specs.Rows.{tabulate}
-use Rattle.laws.proofs.Fit.{length-tabulate, getD-tabulate, sets-join}
+use Rattle.laws.proofs.Fit.{getD-tabulate, tabulate-same, sets-join}
 use Rattle.words.specs.Words.{bytesOf, wordAt, blank}
 use Rattle.rules.specs.declared.Task.{Task}
 use Rattle.semaphore.specs.declared.Semaphore.{Semaphore}
 use Rattle.tables.specs.declared.Head.{Head}
-use Rattle.tables.specs.Layout.{tablesLength, taskPlace, slotPlace, recordRow, taskAt, headOf, recordAt, isQueueLaid, isLaid}
-
--- ---- a queue, loaded place by place
-
--- the first k places hold the values
-abbrev pub Loaded : (ℕ → ℕ) → List ℕ → ℕ → Type 0
-Loaded f queue k = (j : ℕ) → j < k → getD queue j 0 ≡ f j
-
-pub loaded-none : (f : ℕ → ℕ) (queue : List ℕ) → Loaded f queue 0
-loaded-none f queue j h = absurd (not-suc-le-zero h)
-
-pub loaded-more : (f : ℕ → ℕ) (queue : List ℕ) (k w : ℕ) → k < length queue → w ≡ f k
-    → Loaded f queue k → Loaded f (set queue k w) (k + 1)
-loaded-more f queue k w h e l j b =
-    elim (ℕ-discrete j k) [
-      | yes s ↦ ap (λ (n : ℕ). getD (set queue k w) n 0) s ∙ getD-set-same queue k w 0 h ∙ e ∙ ap f (sym s)
-      | no d ↦ getD-set-other queue k j w 0 d ∙ l j (omega arith)
-    ]
-
-pub loaded-all : (n : ℕ) (f : ℕ → ℕ) (queue : List ℕ) → length queue ≡ n → Loaded f queue n → queue ≡ tabulate n f
-loaded-all n f queue e l =
-    ext-getD 0 queue (tabulate n f) (e ∙ sym (length-tabulate n f))
-    (λ i h. l i (omega arith) ∙ sym (getD-tabulate n f i 0 (omega arith)))
+use Rattle.tables.specs.Codec.{recordRow}
+use Rattle.tables.specs.Layout.{tablesLength, taskPlace, slotPlace, taskAt, headOf, recordAt, isQueueLaid, isLaid}
 
 -- ---- a slot, stored as its eight words and then its queue
 
@@ -63,13 +40,31 @@ slot-stored m m₁ m₂ at s e₁ e₂ =
 
 abbrev recordWith : Head → List ℕ → Semaphore
 recordWith s queue =
-    record { generation = s .generation; live = s .live; name = s .name; attributes = s .attributes; count = s .count; owner = s .owner; nest = s .nest; waiters = s .waiters; queue = queue }
+    record {
+      generation = s .generation;
+      live = s .live;
+      name = s .name;
+      attributes = s .attributes;
+      count = s .count;
+      owner = s .owner;
+      nest = s .nest;
+      waiters = s .waiters;
+      queue = queue;
+    }
+
+-- a row's first word stands at its place
+first-word : (bs : List ℕ) (at w : ℕ) → w ≡ wordAt bs at → w ≡ wordAt bs (at + 0)
+first-word bs at w e = e ∙ ap (wordAt bs) (omega arith)
+
+pub generation-loaded : (bs : List ℕ) (i w : ℕ) → w ≡ wordAt bs (slotPlace i) → w ≡ recordAt bs i .generation
+unfolding recordAt tabulate
+generation-loaded bs i w e = first-word bs (slotPlace i) w e
 
 pub task-loaded : (bs : List ℕ) (i a b c d : ℕ)
     → a ≡ wordAt bs (taskPlace i) → b ≡ wordAt bs (taskPlace i + 1) → c ≡ wordAt bs (taskPlace i + 2) → d ≡ wordAt bs (taskPlace i + 3)
     → _≡_ {A = Task} (record { priority = a; answer = b; awaited = c; ticks = d }) (taskAt bs i)
-unfolding taskAt
-task-loaded bs i a b c d ea eb ec ed = cc
+unfolding taskAt tabulate
+task-loaded bs i a b c d ea eb ec ed = cc (first-word bs (taskPlace i) a ea)
 
 pub head-loaded : (bs : List ℕ) (i a b c d e f g h : ℕ)
     → a ≡ wordAt bs (slotPlace i) → b ≡ wordAt bs (slotPlace i + 1) → c ≡ wordAt bs (slotPlace i + 2) → d ≡ wordAt bs (slotPlace i + 3)
@@ -77,8 +72,22 @@ pub head-loaded : (bs : List ℕ) (i a b c d e f g h : ℕ)
     → _≡_ {A = Head}
     (record { generation = a; live = b; name = c; attributes = d; count = e; owner = f; nest = g; waiters = h })
     (headOf (recordAt bs i))
+unfolding recordAt tabulate
+head-loaded bs i a b c d e f g h ea eb ec ed ee ef eg eh = cc (first-word bs (slotPlace i) a ea)
+
+-- the places of a queue
+queue-from : (f : ℕ → ℕ) → drop 8 (tabulate 40 f) ≡ tabulate 32 (λ k. f (8 + k))
+unfolding tabulate
+queue-from f = refl
+
+pub queue-row : (bs : List ℕ) (i : ℕ) → tabulate 32 (λ k. wordAt bs (slotPlace i + 8 + k)) ≡ recordAt bs i .queue
 unfolding recordAt
-head-loaded bs i a b c d e f g h ea eb ec ed ee ef eg eh = cc
+queue-row bs i =
+    tabulate-same 32 (λ k. wordAt bs (slotPlace i + 8 + k)) (λ k. wordAt bs (slotPlace i + (8 + k))) (λ k l. ap (wordAt bs) (omega arith))
+    ∙ sym (queue-from (λ k. wordAt bs (slotPlace i + k)))
+
+pub queue-word : (bs : List ℕ) (i k : ℕ) → k < 32 → wordAt bs (slotPlace i + 8 + k) ≡ getD (recordAt bs i .queue) k 0
+queue-word bs i k l = sym (getD-tabulate 32 (λ k. wordAt bs (slotPlace i + 8 + k)) k 0 l) ∙ ap (λ (q : List ℕ). getD q k 0) (queue-row bs i)
 
 -- what stands before a queue, with the queue
 pub slot-loaded : (s : Semaphore) (head : Head) (queue : List ℕ) → head ≡ headOf s → queue ≡ s .queue → recordWith head queue ≡ s
@@ -93,7 +102,7 @@ and-stop : {a : Bool} (b : Bool) → a ≡ false → false ≡ (a and b)
 and-stop b e = sym (if-no b false e)
 
 -- a slot's queue, by its number of waiters
-module _ (bs : List ℕ) (i w : ℕ) (e : w ≡ wordAt bs (slotPlace i + 7)) where
+module _ (bs : List ℕ) (i w : ℕ) (e : w ≡ recordAt bs i .waiters) where
   queue-tested : (leb w 32 and blank bs (slotPlace i + 8 + w) (slotPlace i + 40)) ≡ isQueueLaid bs i
   unfolding isQueueLaid
   queue-tested = ap (λ (w : ℕ). leb w 32 and blank bs (slotPlace i + 8 + w) (slotPlace i + 40)) e

@@ -7,35 +7,25 @@ use native.Mathlib.Omega.{arith}
 use lib.ListN.{length, getD, take, length-set, length-map}
 use lib.Seq.{sets, take-suc}
 use Rattle.laws.proofs.Fit.{getD-map}
-use Rattle.words.specs.Words.{bytesOf, wordAt}
-use Rattle.words.proofs.Laws.{Bytes, words-below, wordAt-bytesOf}
+use Rattle.words.specs.Words.{bytesOf}
+use Rattle.words.proofs.WordsInBytes.{Bytes}
 use Rattle.rules.specs.declared.Task.{Task}
 use Rattle.rules.specs.Machine.{Slot, Tables, unstarted, noTask, taskOf, putTask, putSlot}
 use Rattle.rules.specs.Calls.{readied, wake, wakeAll, newTask, started}
 use Rattle.semaphore.specs.declared.Semaphore.{Semaphore}
 use Rattle.semaphore.specs.Record.{Stands}
-use Rattle.tables.specs.Layout.{taskPlace, slotPlace, taskRow, recordRow, layout, laid, taskAt}
-use Rattle.tables.proofs.LawsRead.{layout-task-word}
-use Rattle.tables.proofs.LawsStore.{store-task-laid, store-slot-laid, starting, start-counts, start-task, start-all}
+use Rattle.tables.specs.Codec.{taskRow, recordRow}
+use Rattle.tables.specs.Layout.{taskPlace, slotPlace, laid, taskAt}
+use Rattle.tables.proofs.LayoutRead.{laid-words, task-laid}
+use Rattle.tables.proofs.LayoutStore.{store-task-laid, store-slot-laid, starting, start-counts, start-task, start-all}
 
 -- ---- a task that is read from bytes
-
-module _ (t : Tables) (b : Bytes (laid t)) where
-  pub word-laid : (k : ℕ) → wordAt (laid t) k ≡ getD (layout t) k 0
-  unfolding laid
-  word-laid k = wordAt-bytesOf (layout t) (words-below (layout t) b) k
-
-  pub task-laid : (i : ℕ) → i < 32 → taskAt (laid t) i ≡ getD (t .tasks) i noTask
-  unfolding taskAt
-  task-laid i l =
-      let w : (k j : ℕ) → k ≡ taskPlace i + j → j < 4 → wordAt (laid t) k ≡ getD (taskRow (getD (t .tasks) i noTask)) j 0 = λ k j p h. word-laid k ∙ layout-task-word t i k j p l h in
-      λ k. record { priority = w (taskPlace i) 0 (omega arith) (omega arith) k; answer = w (taskPlace i + 1) 1 refl (omega arith) k; awaited = w (taskPlace i + 2) 2 refl (omega arith) k; ticks = w (taskPlace i + 3) 3 refl (omega arith) k }
 
 -- task q is the one at q - 1
 pub task-numbered : (m : List ℕ) (t : Tables) (q : ℕ) → Bytes m → m ≡ laid t → 1 ≤ q → q ≤ 32 → taskAt m (q - 1) ≡ taskOf t q
 task-numbered m t q b e l h =
     let p : q - 1 ≡ pred q = sub-one q in
-    rw (e, p) (task-laid t (rw e at b) (pred q) (omega arith))
+    rw (e, p) (task-laid t (laid-words t (rw e at b)) (pred q) (omega arith))
 
 -- ---- a task or a slot that is stored
 

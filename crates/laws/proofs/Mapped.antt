@@ -1,15 +1,12 @@
--- A list mapped in place, element by element; and a list of flags set one after another.
+-- A list mapped in place, and one filled with the values of a function, element by element.
 use mathlib.Core.Path.{_≡_, refl, sym, ap, _∙_}
-use mathlib.Core.Bool.{Bool, false}
 use mathlib.Core.List.{List, [], _∷_, _++_, map}
 use Prim.Native.Nat.{ℕ, zero, suc, _+_, _<_}
 use native.Mathlib.Nat.{not-suc-le-zero}
 use native.Mathlib.Decide.{ℕ-discrete}
 use native.Mathlib.Omega.{arith}
 use lib.ListN.{length, getD, set, take, drop}
-use lib.Seq.{ext-getD, getD-set-same, getD-set-other}
-use Rattle.laws.specs.Rows.{fit}
-use Rattle.laws.proofs.Fit.{length-fit, getD-fit}
+use lib.Seq.{getD-set-same, getD-set-other}
 
 -- the first i elements mapped, the others as they are
 abbrev pub mapped : {A : Type 0} → (A → A) → ℕ → List A → List A
@@ -43,27 +40,17 @@ module _ {A : Type 0} (f : A → A) where
   mapped-keeps P k (suc i) (x ∷ xs) zero d h = k x h
   mapped-keeps P k (suc i) (x ∷ xs) (suc j) d h = mapped-keeps P k i xs j d h
 
--- an element of the image, or the image of what stands past the end
-pub getD-map-else : {A B : Type 0} (f : A → B) (xs : List A) (i : ℕ) (d : A) → getD (map f xs) i (f d) ≡ f (getD xs i d)
-getD-map-else f [] i d = refl
-getD-map-else f (x ∷ xs) zero d = refl
-getD-map-else f (x ∷ xs) (suc i) d = getD-map-else f xs i d
+-- the first k elements are the values of f
+abbrev pub Filled : {A : Type 0} → (ℕ → A) → A → List A → ℕ → Type 0
+Filled f d xs k = (j : ℕ) → j < k → getD xs j d ≡ f j
 
--- the first k flags are those of f
-abbrev pub Flagged : (ℕ → Bool) → List Bool → ℕ → Type 0
-Flagged f flags k = (j : ℕ) → j < k → getD flags j false ≡ f j
+module _ {A : Type 0} (f : ℕ → A) (d : A) (xs : List A) where
+  pub filled-none : Filled f d xs 0
+  filled-none j h = absurd (not-suc-le-zero h)
 
-pub flagged-none : (f : ℕ → Bool) (flags : List Bool) → Flagged f flags 0
-flagged-none f flags j h = absurd (not-suc-le-zero h)
-
-pub flagged-more : (f : ℕ → Bool) (flags : List Bool) (k : ℕ) (b : Bool) → k < length flags → b ≡ f k → Flagged f flags k → Flagged f (set flags k b) (k + 1)
-flagged-more f flags k b h e l j m =
-    elim (ℕ-discrete j k) [
-      | yes s ↦ ap (λ (n : ℕ). getD (set flags k b) n false) s ∙ getD-set-same flags k b false h ∙ e ∙ ap f (sym s)
-      | no d ↦ getD-set-other flags k j b false d ∙ l j (omega arith)
-    ]
-
-pub flagged-all : (n : ℕ) (bs flags : List Bool) → length flags ≡ n → Flagged (λ j. getD bs j false) flags n → flags ≡ fit n false bs
-flagged-all n bs flags e l =
-    ext-getD false flags (fit n false bs) (e ∙ sym (length-fit n false bs))
-    (λ i h. l i (omega arith) ∙ sym (getD-fit n false bs i (omega arith)))
+  pub filled-more : (k : ℕ) (x : A) → k < length xs → x ≡ f k → Filled f d xs k → Filled f d (set xs k x) (k + 1)
+  filled-more k x h e l j m =
+      elim (ℕ-discrete j k) [
+        | yes s ↦ ap (λ (n : ℕ). getD (set xs k x) n d) s ∙ getD-set-same xs k x d h ∙ e ∙ ap f (sym s)
+        | no o ↦ getD-set-other xs k j x d o ∙ l j (omega arith)
+      ]

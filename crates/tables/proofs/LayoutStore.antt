@@ -1,22 +1,21 @@
 -- What a store makes of a layout: the layout of the tables with one task or one slot replaced, and the tables as they start.
 use mathlib.Core.Path.{_≡_, refl, sym, ap, ap₂, _∙_}
-use mathlib.Core.List.{List, [], _∷_, _++_, map}
+use mathlib.Core.List.{List, [], _∷_}
 use Prim.Native.Nat.{ℕ, suc, _+_, _*_, _≤_, _<_}
 use native.Mathlib.Omega.{arith}
-use lib.ListN.{length, getD, set, take, replicate, length-set, length-replicate, replicate-append-replicate}
-use lib.Seq.{sets, length-take-le, take-length}
-use Rattle.laws.specs.Rows.{fit, rows}
-use Rattle.laws.proofs.Fit.{length-fit, fit-none, fit-all, set-fit, fit-replicate, set-fit-next, map-replicate}
-use Rattle.laws.proofs.Rows.{rows-replicate}
+use lib.ListN.{length, getD, set, take, replicate, length-set, length-replicate}
+use lib.Seq.{sets, ext-getD, length-take-le, take-length}
+use Rattle.laws.specs.Rows.{fit}
+use Rattle.laws.proofs.Fit.{length-fit, fit-none, fit-all, getD-same, set-fit, fit-replicate, set-fit-next}
 use Rattle.words.specs.Words.{bytesOf}
-use Rattle.words.proofs.Laws.{sets-bytesOf, bytesOf-zeros}
+use Rattle.words.proofs.WordsInBytes.{sets-bytesOf, bytesOf-zeros}
 use Rattle.rules.specs.declared.Task.{Task}
-use Rattle.rules.specs.Machine.{Slot, Tables, unstarted, noTask, freeSlot}
+use Rattle.rules.specs.Machine.{Slot, Tables, unstarted, withTasks, withSlots, noTask, freeSlot}
 use Rattle.semaphore.specs.declared.Semaphore.{Semaphore}
 use Rattle.semaphore.specs.Record.{slotFrom, Padded}
-use Rattle.tables.specs.Layout.{tablesLength, taskPlace, slotPlace, taskRow, slotRow, recordRow, layout, laid}
-use Rattle.tables.proofs.LawsLayout.{words, set-task, set-slot}
-use Rattle.tables.proofs.LawsRead.{places, slotPlaces, length-layout}
+use Rattle.tables.specs.Codec.{taskRow, slotRow, recordRow}
+use Rattle.tables.specs.Layout.{tablesLength, taskPlace, slotPlace, layout, laid}
+use Rattle.tables.proofs.LayoutWords.{words, taskPlaces, slotPlaces, tasks-long, slots-long, set-task, set-slot, no-slot-word, length-layout, length-slotRow, task-word, slot-word, by-place}
 
 -- a row stored in the bytes is stored in the words
 store-words : (t : Tables) (k : ℕ) (r : List ℕ) → k + length r ≤ 2690 → sets (laid t) (4 * k) (bytesOf r) ≡ bytesOf (sets (layout t) k r)
@@ -24,22 +23,22 @@ unfolding laid
 store-words t k r h = sets-bytesOf (layout t) k r (omega (arith, length-layout t))
 
 pub store-task-laid : (t : Tables) (i : ℕ) (v : Task) → i < 32 → i < length (t .tasks)
-    → sets (laid t) (4 * taskPlace i) (bytesOf (taskRow v)) ≡ laid (record { tasks = set (t .tasks) i v; slots = t .slots })
+    → sets (laid t) (4 * taskPlace i) (bytesOf (taskRow v)) ≡ laid (withTasks t (set (t .tasks) i v))
 unfolding laid layout
 store-task-laid t i v l h =
     store-words t (taskPlace i) (taskRow v) (omega arith)
     ∙ ap bytesOf
-    (set-task (places t) (slotPlaces t) (length-fit 32 noTask (t .tasks)) (length-fit 64 (freeSlot 0) (t .slots)) (length (t .tasks)) (length (t .slots)) i v l
+    (set-task (taskPlaces t) (slotPlaces t) (tasks-long t) (slots-long t) (length (t .tasks)) (length (t .slots)) i v l
     ∙ ap₂ (λ (n : ℕ) (ts : List Task). words n (length (t .slots)) ts (slotPlaces t)) (sym (length-set (t .tasks) i v)) (set-fit 32 noTask (t .tasks) i v h))
 
 store-slot-row : (t : Tables) (i : ℕ) (s : Slot) → i < 64 → i < length (t .slots)
-    → sets (laid t) (4 * slotPlace i) (bytesOf (slotRow s)) ≡ laid (record { tasks = t .tasks; slots = set (t .slots) i s })
+    → sets (laid t) (4 * slotPlace i) (bytesOf (slotRow s)) ≡ laid (withSlots t (set (t .slots) i s))
 unfolding laid layout
 store-slot-row t i s l h =
-    store-words t (slotPlace i) (slotRow s) (omega (arith, length-fit 32 0 (s .queue)))
+    store-words t (slotPlace i) (slotRow s) (omega (arith, length-slotRow s))
     ∙ ap bytesOf
-    (set-slot (places t) (slotPlaces t) (length-fit 32 noTask (t .tasks)) (length-fit 64 (freeSlot 0) (t .slots)) (length (t .tasks)) (length (t .slots)) i s l
-    ∙ ap₂ (λ (m : ℕ) (ss : List Slot). words (length (t .tasks)) m (places t) ss) (sym (length-set (t .slots) i s)) (set-fit 64 (freeSlot 0) (t .slots) i s h))
+    (set-slot (taskPlaces t) (slotPlaces t) (tasks-long t) (slots-long t) (length (t .tasks)) (length (t .slots)) i s l
+    ∙ ap₂ (λ (m : ℕ) (ss : List Slot). words (length (t .tasks)) m (taskPlaces t) ss) (sym (length-set (t .slots) i s)) (set-fit 64 (freeSlot 0) (t .slots) i s h))
 
 -- a padded record has the words of the slot that it stands for
 pub record-row : (s : Semaphore) → Padded s → recordRow s ≡ slotRow (slotFrom s)
@@ -49,7 +48,7 @@ record-row s p =
     λ k. s .generation ∷ s .live ∷ s .name ∷ s .attributes ∷ s .count ∷ s .owner ∷ s .nest ∷ w k ∷ p .filled k
 
 pub store-slot-laid : (t : Tables) (i : ℕ) (s : Semaphore) → i < 64 → i < length (t .slots) → Padded s
-    → sets (laid t) (4 * slotPlace i) (bytesOf (recordRow s)) ≡ laid (record { tasks = t .tasks; slots = set (t .slots) i (slotFrom s) })
+    → sets (laid t) (4 * slotPlace i) (bytesOf (recordRow s)) ≡ laid (withSlots t (set (t .slots) i (slotFrom s)))
 store-slot-laid t i s l h p =
     ap (λ (r : List ℕ). sets (laid t) (4 * slotPlace i) (bytesOf r)) (record-row s p) ∙ store-slot-row t i (slotFrom s) l h
 
@@ -57,24 +56,19 @@ store-slot-laid t i s l h p =
 
 -- before the start every byte is 0
 pub laid-unstarted : laid unstarted ≡ replicate tablesLength 0
-unfolding laid layout
+unfolding laid
 laid-unstarted = ap bytesOf zeros ∙ bytesOf-zeros 2690
   where
-    tasks : rows (map taskRow (fit 32 noTask [])) ≡ replicate 128 0
-    tasks = ap (λ (ts : List Task). rows (map taskRow ts)) (fit-none 32 noTask) ∙ ap {B = List ℕ} rows (map-replicate taskRow 32 noTask) ∙ rows-replicate 4 32 0
-
-    row : slotRow (freeSlot 0) ≡ replicate 40 0
-    row = ap (λ (q : List ℕ). 0 ∷ 0 ∷ 0 ∷ 0 ∷ 0 ∷ 0 ∷ 0 ∷ 0 ∷ q) (fit-none {A = ℕ} 32 0)
-
-    slots : rows (map slotRow (fit 64 (freeSlot 0) [])) ≡ replicate 2560 0
-    slots =
-        ap (λ (ss : List Slot). rows (map slotRow ss)) (fit-none 64 (freeSlot 0))
-        ∙ ap {B = List ℕ} rows (map-replicate slotRow 64 (freeSlot 0))
-        ∙ ap (λ (r : List ℕ). rows (replicate 64 r)) row
-        ∙ rows-replicate 40 64 0
+    zero-word : (k : ℕ) → k < 2690 → getD (layout unstarted) k 0 ≡ 0
+    zero-word =
+        by-place (λ k. getD (layout unstarted) k 0 ≡ 0) (unfold layout in refl) (unfold layout in refl)
+        (λ i j l b. task-word unstarted i j l b ∙ getD-same 4 0 j)
+        (λ i j l b. slot-word unstarted i j l b ∙ no-slot-word j)
 
     zeros : layout unstarted ≡ replicate 2690 0
-    zeros = ap₂ (λ (a b : List ℕ). 0 ∷ 0 ∷ a ++ b) tasks slots ∙ ap (λ (r : List ℕ). 0 ∷ 0 ∷ r) (replicate-append-replicate 128 2560 0)
+    zeros =
+        ext-getD 0 (layout unstarted) (replicate 2690 0) (length-layout unstarted ∙ sym (length-replicate {A = ℕ} 2690 0))
+        (λ k l. zero-word k (omega (arith, length-layout unstarted)) ∙ sym (getD-same 2690 0 k))
 
 -- the tables with the first k of their tasks stored, the others still 0, and every slot free
 abbrev pub starting : ℕ → List Task → ℕ → Tables

@@ -1,0 +1,134 @@
+-- What is read from a layout: the counts, each task, each slot, and the whole model.
+use mathlib.Core.Path.{_≡_, refl, sym, ap, _∙_}
+use mathlib.Core.List.{List}
+use Prim.Native.Nat.{ℕ, _+_, _*_, _≤_, _<_}
+use native.Mathlib.Omega.{arith}
+use native.Mathlib.Decide.{decLt}
+use lib.ListN.{length, getD, List·getD-eq-default}
+use Rattle.laws.specs.Rows.{fit, tabulate}
+use Rattle.laws.proofs.Fit.{take-fit, length-tabulate, getD-tabulate, tabulate-is, tabulate-same, tabulate-getD}
+use Rattle.words.specs.Words.{wordAt}
+use Rattle.words.proofs.WordsInBytes.{Bytes, Words, words-below, length-bytesOf, wordAt-bytesOf, wordAt-below}
+use Rattle.rules.specs.declared.Task.{Task}
+use Rattle.rules.specs.Machine.{Slot, Tables, noTask, freeSlot}
+use Rattle.rules.specs.Semaphore.{requeued}
+use Rattle.semaphore.specs.declared.Semaphore.{Semaphore}
+use Rattle.semaphore.specs.Record.{slotFrom, recordOf, Padded}
+use Rattle.tables.specs.Codec.{taskRow, taskFrom, recordRow, recordFrom, slotRow}
+use Rattle.tables.specs.Layout.{tablesLength, taskPlace, slotPlace, layout, laid, rowAt, taskAt, recordAt, modelOf}
+use Rattle.tables.specs.Sizes.{Limited, Holds}
+use Rattle.tables.proofs.LayoutWords.{length-slotRow, length-layout, task-word, slot-word}
+
+pub length-laid : (t : Tables) → length (laid t) ≡ tablesLength
+unfolding laid
+length-laid t = length-bytesOf (layout t) ∙ ap (λ (n : ℕ). 4 * n) (length-layout t)
+
+-- where the layout is in bytes, its words are below 2 ^ 32
+pub laid-words : (t : Tables) → Bytes (laid t) → Words (layout t)
+unfolding laid
+laid-words t b = words-below (layout t) b
+
+pub limited-holds : (t : Tables) → Limited t → Bytes (laid t) → Holds t
+limited-holds t h b = record { limited = h; words = laid-words t b }
+
+-- ---- rows that are read from any bytes
+
+-- a row is that of the record that is read from it
+pub task-row : (bs : List ℕ) (i : ℕ) → taskRow (taskAt bs i) ≡ rowAt bs (taskPlace i) 4
+unfolding taskAt tabulate
+task-row bs i = refl
+
+pub slot-row : (bs : List ℕ) (i : ℕ) → recordRow (recordAt bs i) ≡ rowAt bs (slotPlace i) 40
+unfolding recordAt tabulate
+slot-row bs i = refl
+
+-- `record-below bs b i 0` is that the generation of slot i is below 2 ^ 32, and so on in the order of the row
+module _ (bs : List ℕ) (b : Bytes bs) where
+  row-below : (at n : ℕ) → Words (rowAt bs at n)
+  row-below at n k =
+      elim (decLt k n) [
+        | yes l ↦ rw (getD-tabulate n (λ j. wordAt bs (at + j)) k 0 l) (wordAt-below bs b (at + k))
+        | no d ↦ let past : length (rowAt bs at n) ≤ k = omega (arith, length-tabulate n (λ j. wordAt bs (at + j))) in omega (arith, List·getD-eq-default (rowAt bs at n) 0 past)
+      ]
+
+  pub task-below : (i : ℕ) → Words (taskRow (taskAt bs i))
+  task-below i k = omega (arith, ap (λ (r : List ℕ). getD r k 0) (task-row bs i), row-below (taskPlace i) 4 k)
+
+  pub record-below : (i : ℕ) → Words (recordRow (recordAt bs i))
+  record-below i k = omega (arith, ap (λ (r : List ℕ). getD r k 0) (slot-row bs i), row-below (slotPlace i) 40 k)
+
+-- ---- a row reads back: a task's as `taskFrom (taskRow v)` computes, a slot's with its queue within 32 places
+
+module _ (s : Slot) (h : length (s .queue) ≤ 32) where
+  pub slot-record : slotFrom (recordFrom (slotRow s)) ≡ s
+  slot-record = ap {B = Slot} (requeued s) (take-fit 32 0 (s .queue) h)
+
+  pub record-padded : Padded (recordOf s)
+  record-padded = record { few = h; filled = ap (fit 32 0) (sym (take-fit 32 0 (s .queue) h)) }
+
+-- ---- a layout whose words are of 32 bits
+
+module _ (t : Tables) (w : Words (layout t)) where
+  pub word-laid : (k : ℕ) → wordAt (laid t) k ≡ getD (layout t) k 0
+  unfolding laid
+  word-laid k = wordAt-bytesOf (layout t) w k
+
+  pub count-laid : wordAt (laid t) 0 ≡ length (t .tasks)
+  unfolding layout
+  count-laid = word-laid 0
+
+  row-laid : (at n : ℕ) (row : List ℕ) → length row ≡ n → ((j : ℕ) → j < n → getD (layout t) (at + j) 0 ≡ getD row j 0) → rowAt (laid t) at n ≡ row
+  row-laid at n row e h = sym (tabulate-is n (λ j. wordAt (laid t) (at + j)) row 0 e (λ j l. sym (word-laid (at + j) ∙ h j l)))
+
+  pub task-laid : (i : ℕ) → i < 32 → taskAt (laid t) i ≡ getD (t .tasks) i noTask
+  unfolding taskAt
+  task-laid i l =
+      ap {B = Task} taskFrom (row-laid (taskPlace i) 4 (taskRow (getD (t .tasks) i noTask)) refl (λ j b. task-word t i j l b))
+
+  pub record-laid : (i : ℕ) → i < 64 → recordAt (laid t) i ≡ recordOf (getD (t .slots) i (freeSlot 0))
+  unfolding recordAt
+  record-laid i l =
+      let s : Slot = getD (t .slots) i (freeSlot 0) in
+      ap {B = Semaphore} recordFrom (row-laid (slotPlace i) 40 (slotRow s) (length-slotRow s) (λ j b. slot-word t i j l b))
+
+-- ---- tables that a layout holds
+
+-- every queue has room, those past the last slot too
+pub queue-few : (t : Tables) → Limited t → (i : ℕ) → length (getD (t .slots) i (freeSlot 0) .queue) ≤ 32
+queue-few t h i = elim (decLt i (length (t .slots))) [ yes l ↦ h .queues i l | no d ↦ past (omega arith) ]
+  where
+    past : length (t .slots) ≤ i → length (getD (t .slots) i (freeSlot 0) .queue) ≤ 32
+    past l = rw (List·getD-eq-default (t .slots) (freeSlot 0) l) (omega arith)
+
+module _ (t : Tables) (h : Holds t) where
+  pub laid-tasks : wordAt (laid t) 0 ≡ length (t .tasks)
+  laid-tasks = count-laid t (h .words)
+
+  pub laid-slots : wordAt (laid t) 1 ≡ length (t .slots)
+  unfolding layout
+  laid-slots = word-laid t (h .words) 1
+
+  module _ (i : ℕ) where
+    pub slotAt-laid : i < 64 → slotFrom (recordAt (laid t) i) ≡ getD (t .slots) i (freeSlot 0)
+    slotAt-laid l =
+        ap {B = Slot} slotFrom (record-laid t (h .words) i l) ∙ slot-record (getD (t .slots) i (freeSlot 0)) (queue-few t (h .limited) i)
+
+    pub padded-laid : i < 64 → Padded (recordAt (laid t) i)
+    padded-laid l = rw (record-laid t (h .words) i l) (record-padded (getD (t .slots) i (freeSlot 0)) (queue-few t (h .limited) i))
+
+  -- the model reads back
+  pub modelOf-laid : modelOf (laid t) ≡ t
+  unfolding modelOf
+  modelOf-laid = λ k. record { tasks = tasks k; slots = slots k }
+    where
+      tasks : tabulate (wordAt (laid t) 0) (taskAt (laid t)) ≡ t .tasks
+      tasks =
+          ap (λ (n : ℕ). tabulate n (taskAt (laid t))) laid-tasks
+          ∙ tabulate-same (length (t .tasks)) (taskAt (laid t)) (λ i. getD (t .tasks) i noTask) (λ i l. task-laid t (h .words) i (omega (arith, h .limited .tasks)))
+          ∙ tabulate-getD (t .tasks) noTask
+
+      slots : tabulate (wordAt (laid t) 1) (λ i. slotFrom (recordAt (laid t) i)) ≡ t .slots
+      slots =
+          ap (λ (n : ℕ). tabulate n (λ i. slotFrom (recordAt (laid t) i))) laid-slots
+          ∙ tabulate-same (length (t .slots)) (λ i. slotFrom (recordAt (laid t) i)) (λ i. getD (t .slots) i (freeSlot 0)) (λ i l. slotAt-laid i (omega (arith, h .limited .slots)))
+          ∙ tabulate-getD (t .slots) (freeSlot 0)
