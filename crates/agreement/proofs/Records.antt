@@ -13,7 +13,7 @@ use Rattle.laws.proofs.Choose.{if-yes, if-no, and-both, both-and}
 use Rattle.laws.specs.All.{all}
 use Rattle.laws.proofs.Fit.{length-tabulate}
 use Rattle.words.specs.Words.{wordAt, blank}
-use Rattle.words.proofs.Laws.{blank-at, blank-of}
+use Rattle.words.proofs.WordsInBytes.{blank-at, blank-of}
 use Rattle.rules.specs.declared.Task.{Task}
 use Rattle.rules.specs.Numbers.{maxPriority, maxGeneration, within}
 use Rattle.rules.specs.Machine.{Slot, taskOf, slotOf, waits, isLive, slotNamed}
@@ -22,7 +22,7 @@ use Rattle.semaphore.specs.declared.Semaphore.{Semaphore}
 use Rattle.semaphore.specs.Record.{slotFrom}
 use Rattle.tables.specs.Layout.{slotPlace, taskAt, recordAt, modelOf}
 use Rattle.lookup.proofs.Model.{length-tasks, length-slots, task-read, slot-read}
-use Rattle.lookup.proofs.Laws.{Named, named, not-named}
+use Rattle.lookup.proofs.CallerAndSlot.{Named, named, not-named}
 use Rattle.agreement.specs.Tests.{waitingFine, readyFine, taskFine, freeFine, liveFine, slotFine, tasksFine, slotsFine}
 use Rattle.agreement.proofs.Fine.{same-test}
 

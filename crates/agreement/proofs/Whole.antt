@@ -11,7 +11,7 @@ use Rattle.laws.specs.Choose.{_and_}
 use Rattle.laws.proofs.Choose.{and-both}
 use Rattle.laws.proofs.All.{all-at}
 use Rattle.words.specs.Words.{wordAt}
-use Rattle.words.proofs.Laws.{Bytes, wordAt-below}
+use Rattle.words.proofs.WordsInBytes.{Bytes, wordAt-below}
 use Rattle.rules.specs.declared.Task.{Task}
 use Rattle.rules.specs.Numbers.{maxNumber}
 use Rattle.rules.specs.Machine.{Slot, noTask, freeSlot}

@@ -8,7 +8,7 @@ use native.Mathlib.Omega.{arith}
 use lib.ListN.{length, getD}
 use borrow.Author.Tests.{eqb-true, leb-true}
 use Rattle.laws.proofs.Choose.{tested, or-either, and-both}
-use Rattle.words.proofs.Laws.{Bytes}
+use Rattle.words.proofs.WordsInBytes.{Bytes}
 use Rattle.words.specs.Words.{wordAt}
 use Rattle.rules.specs.Machine.{Tables, isLive, freeSlot, next}
 use Rattle.rules.specs.Agreement.{Agrees, sizesFit}
@@ -16,9 +16,10 @@ use Rattle.rules.specs.Calls.{answered}
 use Rattle.rules.proofs.Invariants.Facts.{Facts, nthSlot}
 use Rattle.rules.proofs.Invariants.FromTests.{agrees-facts}
 use Rattle.rules.proofs.Invariants.Room as room
-use Rattle.tables.specs.Layout.{Holds, laid, modelOf, tablesLength}
-use Rattle.tables.proofs.LawsRead.{length-laid, laid-tasks, laid-slots, modelOf-laid}
-use Rattle.tables.proofs.LawsHolds.{holds-bytes}
+use Rattle.tables.specs.Layout.{laid, modelOf, tablesLength}
+use Rattle.tables.specs.Sizes.{Holds}
+use Rattle.tables.proofs.LayoutRead.{length-laid, laid-tasks, laid-slots, modelOf-laid}
+use Rattle.tables.proofs.LayoutHolds.{holds-bytes}
 use Rattle.tables.specs.Sizes.{Sized}
 
 -- N and S of agreeing tables are within the places there are

@@ -8,7 +8,7 @@ use native.Mathlib.Omega.{arith}
 use lib.ListN.{length, getD}
 use lib.Seq.{getD-take}
 use Rattle.laws.proofs.Choose.{if-yes}
-use Rattle.words.proofs.Laws.{Bytes}
+use Rattle.words.proofs.WordsInBytes.{Bytes}
 use Rattle.rules.specs.declared.Answer.{Answer}
 use Rattle.rules.specs.declared.Call.{Call}
 use Rattle.rules.specs.Machine.{Slot, Tables, slotOf, isLive, names, slotNamed}
@@ -23,11 +23,11 @@ use Rattle.rules.proofs.Invariants.Refusals.{found}
 use Rattle.rules.proofs.Invariants.Kept.{kept}
 use Rattle.semaphore.specs.declared.Semaphore.{Semaphore}
 use Rattle.semaphore.specs.Record.{Stands}
-use Rattle.semaphore.proofs.Steps.{length-queue}
+use Rattle.semaphore.proofs.TakeGive.{length-queue}
 use Rattle.tables.specs.Layout.{laid, modelOf, recordAt}
-use Rattle.tables.proofs.LawsRead.{slotAt-laid, padded-laid}
+use Rattle.tables.proofs.LayoutRead.{slotAt-laid, padded-laid}
 use Rattle.tables.specs.Sizes.{Sized}
-use Rattle.lookup.proofs.Laws.{named}
+use Rattle.lookup.proofs.CallerAndSlot.{named}
 use Rattle.answers.specs.Steps.{Agreeing, Did}
 use Rattle.answers.proofs.Laws.{tasks-few, slots-few, holds, sized}
 use Rattle.answers.proofs.Did.{did-tables, read-of, unless-refused}

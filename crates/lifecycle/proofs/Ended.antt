@@ -10,7 +10,7 @@ use lib.ListN.{length, getD, take}
 use borrow.Author.Tests.{eq-eqb, ne-eqb, le-leb}
 use Rattle.laws.specs.Choose.{_and_, _or_}
 use Rattle.laws.proofs.Choose.{if-yes, if-no, both-and, or-first, or-second}
-use Rattle.words.proofs.Laws.{Bytes}
+use Rattle.words.proofs.WordsInBytes.{Bytes}
 use Rattle.rules.specs.declared.Answer.{Answer}
 use Rattle.rules.specs.declared.Task.{Task}
 use Rattle.rules.specs.declared.Call.the-variants.{Delete}

@@ -19,7 +19,7 @@ use Rattle.semaphore.specs.Record.{slotFrom}
 use Rattle.tables.specs.Layout.{modelOf, recordAt}
 use Rattle.lookup.proofs.Model.{length-tasks, length-slots, slot-read}
 use Rattle.tables.specs.Sizes.{Sized}
-use Rattle.lookup.proofs.Laws.{task-only-then, Named, named}
+use Rattle.lookup.proofs.CallerAndSlot.{task-only-then, Named, named}
 
 -- ---- one test of a chain: it holds, or the chain goes on
 

@@ -10,7 +10,7 @@ use lib.ListN.{length, getD}
 use borrow.Author.Tests.{eqb-true, eqb-false, le-leb, leb-true, leb-false, ltb-true}
 use Rattle.laws.specs.Choose.{_and_, _or_}
 use Rattle.laws.proofs.Choose.{and-both, both-and, or-either}
-use Rattle.words.proofs.Laws.{Bytes}
+use Rattle.words.proofs.WordsInBytes.{Bytes}
 use Rattle.rules.specs.declared.Call.the-variants.{Start, Create}
 use Rattle.rules.specs.Numbers.{maxNumber, within, allowed, isBinary, isSimple}
 use Rattle.rules.specs.Machine.{Slot, Tables, unstarted, freeSlot, slotOf, putSlot}

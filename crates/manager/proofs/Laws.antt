@@ -4,14 +4,14 @@ use mathlib.Core.Bool.{true, false}
 use mathlib.Core.List.{List}
 use Prim.Native.Nat.{ℕ}
 use Rattle.laws.proofs.Choose.{if-yes, if-no, and-both}
-use Rattle.words.proofs.Laws.{Bytes}
+use Rattle.words.proofs.WordsInBytes.{Bytes}
 use Rattle.rules.specs.declared.Call.{Call}
 use Rattle.rules.specs.declared.Answer.{Answer}
 use Rattle.rules.specs.Agreement.{Agrees}
 use Rattle.rules.specs.Calls.{perform}
 use Rattle.rules.proofs.Invariants.Agreeing.{true-agrees}
 use Rattle.tables.specs.Layout.{laid, modelOf}
-use Rattle.tables.proofs.LawsTold.{laid-modelOf}
+use Rattle.tables.proofs.LayoutTest.{laid-modelOf}
 use Rattle.agreement.specs.Bytes.{agreesBytes}
 use Rattle.answers.specs.Steps.{Agreeing, Did}
 use Rattle.manager.specs.Entry.{Reply, Replied, noNext, replyTo}

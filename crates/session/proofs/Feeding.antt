@@ -12,7 +12,7 @@ use Rattle.laws.proofs.Choose.{if-eq, if-ne}
 use Rattle.rules.specs.Agreement.{Agrees}
 use Rattle.rules.proofs.Invariants.Agreeing.{unstarted-agrees}
 use Rattle.tables.specs.Layout.{laid, tablesLength}
-use Rattle.tables.proofs.LawsStore.{laid-unstarted}
+use Rattle.tables.proofs.LayoutStore.{laid-unstarted}
 use Rattle.line.specs.Print.{spliced}
 use Rattle.session.specs.declared.Stepped.{Stepped}
 use Rattle.session.specs.Session.{answerTo}

@@ -11,7 +11,7 @@ use lib.Seq.{take-all, drop-length, drop-drop}
 use borrow.Author.Tests.{le-leb, lt-leb, leb-true}
 use Rattle.laws.specs.Choose.{choose}
 use Rattle.laws.proofs.Choose.{if-yes, if-no, choose-cases, and-both, both-and}
-use Rattle.words.proofs.Laws.{Bytes}
+use Rattle.words.proofs.WordsInBytes.{Bytes}
 use Rattle.rules.specs.declared.Answer.{Answer}
 use Rattle.rules.specs.declared.Call.{Call}
 use Rattle.rules.specs.declared.Wait.{Wait}
@@ -24,9 +24,10 @@ use Rattle.rules.specs.Runs.{Request}
 use Rattle.rules.specs.Fits.{waitFits, callFits}
 use Rattle.rules.proofs.Invariants.Agreeing.{agrees-true}
 use Rattle.rules.proofs.Invariants.Kept.{kept}
-use Rattle.tables.specs.Layout.{Holds, laid}
-use Rattle.tables.proofs.LawsTold.{isLaid-laid}
-use Rattle.tables.proofs.LawsRead.{modelOf-laid}
+use Rattle.tables.specs.Layout.{laid}
+use Rattle.tables.specs.Sizes.{Holds}
+use Rattle.tables.proofs.LayoutTest.{isLaid-laid}
+use Rattle.tables.proofs.LayoutRead.{modelOf-laid}
 use Rattle.answers.proofs.Laws.{holds}
 use Rattle.agreement.specs.Bytes.{agreesBytes}
 use Rattle.manager.specs.Entry.{Reply, Replied, reply, replyTo}

@@ -7,7 +7,7 @@ use native.Mathlib.Omega.{arith}
 use lib.ListN.{length, getD, take}
 use Rattle.laws.specs.Choose.{choose}
 use Rattle.laws.proofs.Choose.{if-yes, if-no}
-use Rattle.words.proofs.Laws.{Bytes}
+use Rattle.words.proofs.WordsInBytes.{Bytes}
 use Rattle.rules.specs.declared.Call.the-variants.{Flush}
 use Rattle.rules.specs.Machine.{Slot, Tables, slotOf, putSlot, names, slotNamed}
 use Rattle.rules.specs.Semaphore.{flushStep}

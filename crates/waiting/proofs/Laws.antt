@@ -10,7 +10,7 @@ use lib.ListN.{length, getD}
 use borrow.Author.Tests.{eq-eqb, ne-eqb}
 use Rattle.laws.specs.Choose.{choose, _or_}
 use Rattle.laws.proofs.Choose.{never, tested, if-yes, if-no, or-either, choose-cases}
-use Rattle.words.proofs.Laws.{Bytes}
+use Rattle.words.proofs.WordsInBytes.{Bytes}
 use Rattle.rules.specs.declared.Call.{Call}
 use Rattle.rules.specs.Numbers.{maxNumber, isBinary, isSimple, maximum, byPriority}
 use Rattle.rules.specs.Machine.{Slot, Tables, slotOf, isLive, names, slotNamed}
@@ -24,7 +24,7 @@ use Rattle.rules.proofs.Invariants.Refusals.{Caller, task-only}
 use Rattle.semaphore.specs.declared.Semaphore.{Semaphore}
 use Rattle.semaphore.specs.Record.{Stands}
 use Rattle.tables.specs.Layout.{laid, modelOf, recordAt}
-use Rattle.lookup.proofs.Laws.{task-only-then, any-caller-then, not-named}
+use Rattle.lookup.proofs.CallerAndSlot.{task-only-then, any-caller-then, not-named}
 use Rattle.answers.proofs.Laws.{tasks-few}
 use Rattle.answers.proofs.Reading as reading
 pub use Rattle.answers.proofs.Reading.{Reads, Located, unless-is, waiters-are, sized-bytes, told, located, did}

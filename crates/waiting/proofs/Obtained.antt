@@ -9,7 +9,7 @@ use lib.ListN.{length}
 use borrow.Author.Tests.{le-leb}
 use Rattle.laws.specs.Choose.{choose}
 use Rattle.laws.proofs.Choose.{if-yes, if-no, if-eq, if-ne}
-use Rattle.words.proofs.Laws.{Bytes}
+use Rattle.words.proofs.WordsInBytes.{Bytes}
 use Rattle.rules.specs.declared.Task.{Task}
 use Rattle.rules.specs.declared.Wait.{Wait}
 use Rattle.rules.specs.declared.Wait.the-variants.{Poll, Forever, Ticks}
@@ -22,7 +22,7 @@ use Rattle.semaphore.specs.declared.Semaphore.{Semaphore}
 use Rattle.semaphore.specs.declared.Taken.{Taken as TakenRecord}
 use Rattle.semaphore.specs.Record.{slotFrom, Stands, TakenIs}
 use Rattle.tables.specs.Layout.{laid, modelOf, taskAt}
-use Rattle.changes.proofs.Laws.{task-numbered}
+use Rattle.changes.proofs.PutWakeStart.{task-numbered}
 use Rattle.answers.proofs.Did.{unless-done}
 use Rattle.waiting.proofs.Laws.{Reads, Located, unless-is, told, task-refused, task-passed, unnamed, ready-task, caller-few, place-within, waiters-are, reads-after}
 

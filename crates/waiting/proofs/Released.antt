@@ -9,7 +9,7 @@ use lib.ListN.{length, getD}
 use borrow.Author.Tests.{leb-true}
 use Rattle.laws.specs.Choose.{choose, _and_, isnt}
 use Rattle.laws.proofs.Choose.{if-yes, if-no, if-eq, if-ne, choose-cases}
-use Rattle.words.proofs.Laws.{Bytes}
+use Rattle.words.proofs.WordsInBytes.{Bytes}
 use Rattle.rules.specs.declared.Call.the-variants.{Release}
 use Rattle.rules.specs.Numbers.{isBinary, maximum}
 use Rattle.rules.specs.Machine.{Slot, Tables, slotOf, putSlot, names, slotNamed}

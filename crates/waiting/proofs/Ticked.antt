@@ -7,7 +7,7 @@ use Prim.Native.Nat.{ℕ, _≤_, _<_}
 use native.Mathlib.Omega.{arith}
 use lib.ListN.{length, getD}
 use Rattle.laws.proofs.Choose.{tested}
-use Rattle.words.proofs.Laws.{Bytes}
+use Rattle.words.proofs.WordsInBytes.{Bytes}
 use Rattle.rules.specs.declared.Call.the-variants.{Tick}
 use Rattle.rules.specs.Machine.{Tables, isLive}
 use Rattle.rules.specs.Calls.{answered, ticked, tickedSlot, tick, perform}
@@ -15,7 +15,8 @@ use Rattle.rules.proofs.Invariants.Facts.{Facts, nthSlot}
 use Rattle.rules.proofs.Invariants.FromTests.{agrees-facts}
 use Rattle.rules.proofs.Invariants.Room.{entry-within}
 use Rattle.tables.specs.Layout.{laid}
-use Rattle.changes.specs.Limits.{Limited, TaskQueues, queueAt}
+use Rattle.tables.specs.Sizes.{Limited}
+use Rattle.changes.specs.Tick.{TaskQueues, queueIn}
 use Rattle.answers.proofs.Laws.{tasks-few, slots-few, queue-few}
 use Rattle.waiting.proofs.Laws.{Reads, reads-after}
 
@@ -35,7 +36,7 @@ module _ {bs : List ℕ} {t : Tables} (m : Reads bs t) where
   facts = agrees-facts t (m .agrees)
 
   -- a queue's entries are tasks, and a free slot's queue has none
-  entry : (i k : ℕ) → k < length (queueAt t i) → (1 ≤ getD (queueAt t i) k 0) × (getD (queueAt t i) k 0 ≤ length (t .tasks))
+  entry : (i k : ℕ) → k < length (queueIn t i) → (1 ≤ getD (queueIn t i) k 0) × (getD (queueIn t i) k 0 ≤ length (t .tasks))
   entry i k h =
       ⊎-elim (λ (l : isLive (nthSlot t i) ≡ true). entry-within t facts i l k h)
       (λ (n : isLive (nthSlot t i) ≡ false). absurd (omega (arith, facts .slots i .whenFree n .queue)))

@@ -5,7 +5,7 @@ use native.Mathlib.Omega.{arith}
 use lib.ListN.{length}
 use Rattle.rules.specs.Machine.{freeSlot, slotOf, putSlot}
 use Rattle.semaphore.specs.Record.{Stands}
-use Rattle.tables.proofs.LawsRead.{length-laid}
+use Rattle.tables.proofs.LayoutRead.{length-laid}
 use Rattle.answers.proofs.Did.{agreeing-sized}
 use Rattle.answers.proofs.Reading.{Reads, Located, reads-of, sized-bytes, loaded, waiter-tasks, waiter-few, did}
 use Rattle.lifecycle.proofs.Ended.{delete-located, delete-refused, delete-passed, delete-reads}

@@ -3,7 +3,7 @@ use borrow.Author.Needs.{needs}
 use mathlib.Core.Path.{refl, sym, _∙_}
 use Rattle.rules.specs.Calls.{deleteRefusal}
 use Rattle.tables.specs.Layout.{modelOf}
-use Rattle.lookup.proofs.Laws.{not-named}
+use Rattle.lookup.proofs.CallerAndSlot.{not-named}
 use Rattle.lifecycle.proofs.Laws.{holding, failing, caller-refused, caller-passed, slot-found, slot-few, owned-of}
 use Rattle.lifecycle.proofs.delete_refusal.Statement.{statement}
 use Rattle.lifecycle.proofs.delete_refusal.Tie as tie

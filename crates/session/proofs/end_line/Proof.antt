@@ -5,7 +5,7 @@ use native.Mathlib.Omega.{arith}
 use denote.Ref.{now}
 use lib.Seq.{length-take-le}
 use borrow.Author.Needs.{needs}
-use Rattle.words.proofs.Laws.{Bytes}
+use Rattle.words.proofs.WordsInBytes.{Bytes}
 use Rattle.line.specs.Print.{badLine}
 use Rattle.session.proofs.Output.{too-long, said-bad, said-same, written-at}
 use Rattle.session.proofs.end_line.Statement.{statement}
