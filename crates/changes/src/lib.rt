@@ -17,12 +17,11 @@ ghost use Rattle.changes.specs.Tick.{TaskQueues, expiring, tickedTables}
 fn readied(v: Task, answer: u32) -> Task
     ensures { λ r. ⌜ r ≡ readied v answer ⌝ }
 {
-    Task {
-        priority: v.priority,
-        answer: answer,
-        awaited: 0,
-        ticks: 0,
-    }
+    let mut ready = v;
+    ready.answer = answer;
+    ready.awaited = 0;
+    ready.ticks = 0;
+    ready
 }
 
 pub fn put_task(m: &mut [u8], q: u32, v: Task)
