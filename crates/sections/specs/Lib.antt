@@ -1,0 +1,4 @@
+pub mod Scripts
+pub mod Run
+pub mod Refusals
+pub mod History
