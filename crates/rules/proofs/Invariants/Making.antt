@@ -75,14 +75,14 @@ start-kept t slots priorities f =
 -- ---- create
 
 -- n is the number of a free slot that can have one more generation, where m slots stand before these
-record Open (ss : List Slot) (m n : ℕ) : Type 0 where
-  place : ℕ
-  within : place < length ss
-  number : n ≡ suc (m + place)
-  free : isLive (getD ss place (freeSlot 0)) ≡ false
-  generation : getD ss place (freeSlot 0) .generation < maxGeneration
+pub record Open (ss : List Slot) (m n : ℕ) : Type 0 where
+  pub place : ℕ
+  pub within : place < length ss
+  pub number : n ≡ suc (m + place)
+  pub free : isLive (getD ss place (freeSlot 0)) ≡ false
+  pub generation : getD ss place (freeSlot 0) .generation < maxGeneration
 
-first-free : (ss : List Slot) (m : ℕ) → 1 ≤ firstFree ss (suc m) → Open ss m (firstFree ss (suc m))
+pub first-free : (ss : List Slot) (m : ℕ) → 1 ≤ firstFree ss (suc m) → Open ss m (firstFree ss (suc m))
 unfolding firstFree
 first-free [] m = λ h. absurd (omega arith)
 first-free (s ∷ ss) m =
