@@ -1,3 +1,4 @@
 pub mod Worked
 pub mod Others
 pub mod Observing
+pub mod Callers
