@@ -2,3 +2,4 @@ pub mod Worked
 pub mod Others
 pub mod Observing
 pub mod Callers
+pub mod Standing
