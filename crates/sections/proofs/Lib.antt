@@ -3,3 +3,4 @@ pub mod Others
 pub mod Observing
 pub mod Callers
 pub mod Standing
+pub mod Turns
