@@ -4,3 +4,5 @@ pub mod Observing
 pub mod Callers
 pub mod Standing
 pub mod Turns
+pub mod Footprints
+pub mod Finishing
