@@ -6,3 +6,5 @@ pub mod Standing
 pub mod Turns
 pub mod Footprints
 pub mod Finishing
+pub mod Indices
+pub mod Serial
