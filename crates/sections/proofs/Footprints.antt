@@ -4,6 +4,7 @@ use mathlib.Core.Bool.{true, false, false≢true}
 use mathlib.Core.List.{List, [], _∷_}
 use mathlib.Core.Logic.{_≢_}
 use Prim.Native.Nat.{ℕ, zero, suc, pred, _+_, _*_, _%_, _≤_, _<_}
+use native.Mathlib.Nat.{not-suc-le-zero}
 use native.Mathlib.Omega.{arith}
 use lib.ListN.{length, getD, set, drop}
 use lib.Seq.{set-comm, getD-set-other}
@@ -113,6 +114,11 @@ AllSteps ids x (s ∷ ss) = (isStep ids x s ≡ true) × AllSteps ids x ss
 pub all-steps : (ids : List ℕ) (x : ℕ) (ss : List Step) → ((k : ℕ) → k < length ss → isStep ids x (getD ss k NoStep) ≡ true) → AllSteps ids x ss
 all-steps ids x [] f = tt
 all-steps ids x (s ∷ ss) f = (f 0 (omega arith), all-steps ids x ss (λ k h. f (suc k) (omega arith)))
+
+pub steps-at : (ids : List ℕ) (x : ℕ) (ss : List Step) (k : ℕ) → AllSteps ids x ss → k < length ss → isStep ids x (getD ss k NoStep) ≡ true
+steps-at ids x [] k a h = absurd (not-suc-le-zero h)
+steps-at ids x (s ∷ ss) zero a h = a .0
+steps-at ids x (s ∷ ss) (suc k) a h = steps-at ids x ss k (a .1) (omega arith)
 
 pub drop-steps : (ids : List ℕ) (x n : ℕ) (ss : List Step) → AllSteps ids x ss → AllSteps ids x (drop n ss)
 drop-steps ids x zero ss a = a

@@ -8,3 +8,5 @@ pub mod Footprints
 pub mod Finishing
 pub mod Indices
 pub mod Serial
+pub mod Kept
+pub mod Events
