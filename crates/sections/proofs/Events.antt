@@ -38,7 +38,8 @@ use Rattle.sections.proofs.Finishing.{grant-is}
 use Rattle.sections.proofs.Indices.{index-task}
 use Rattle.sections.proofs.Serial.{grantOf, isOpenAt, restAt, restOf, Serial, Move, same-script, step-taken}
 use Rattle.sections.proofs.Serial.Move.{stays, passes, enters}
-use Rattle.sections.proofs.Kept.{OfSection, Fixed, Sound, move-said, numbered, own-ids, back-of, granted-seen, Goes, goes-seen, called-sound}
+use Rattle.sections.proofs.Kept.AtMostOne.{none}
+use Rattle.sections.proofs.Kept.{OfSection, Fixed, Sound, move-said, numbered, own-ids, back-of, granted-seen, Goes, goes-seen, Next, called-next}
 
 wait-fits : (options timeout : ℕ) → timeout ≤ maxNumber → waitFits (waitOf options timeout) ≡ true
 unfolding waitOf
@@ -64,9 +65,9 @@ module _ (w : Input) (F : Fixed w) (s : State) (S : Sound w s) where
 
   -- ---- a call by someone else
 
-  pub other-sound : (r : Request) → callFits (r .call) ≡ true → isAllowed w (Other r) ≡ true → Sound w (called (w .scripts) s r)
-  other-sound r fits allowed =
-      called-sound w F s S (r .call) (r .priorities) fits (s .places) (λ i h. goes-seen w F s S (r .call) (r .priorities) i h (apart i h))
+  pub other-next : (r : Request) → callFits (r .call) ≡ true → isAllowed w (Other r) ≡ true → Next w s (called (w .scripts) s r)
+  other-next r fits allowed =
+      called-next w F s S (r .call) (r .priorities) fits (s .places) (λ i h. goes-seen w F s S (r .call) (r .priorities) i h (apart i h))
       (λ i k h l a b.
       same-task i k h l (sym (granted-seen w F s S (r .call) (r .priorities) i h (apart i h) a) ∙ granted-seen w F s S (r .call) (r .priorities) k l (apart k l) b))
     where
@@ -97,10 +98,10 @@ module _ (w : Input) (F : Fixed w) (s : State) (S : Sound w s) where
 
       -- the obtain
 
-      obtain-sound : (wait : Wait) → waitFits wait ≡ true → p .position ≡ 0 → Sound w (called (w .scripts) s (ask (Obtain (task i) (section .id) wait)))
+      obtain-next : (wait : Wait) → waitFits wait ≡ true → p .position ≡ 0 → Next w s (called (w .scripts) s (ask (Obtain (task i) (section .id) wait)))
       unfolding perform
-      obtain-sound wait ticks first =
-          called-sound w F s S call [] (both-and (le-leb _ _ (F .small i h)) (both-and (le-leb _ _ x-fits) ticks)) (s .places) goes
+      obtain-next wait ticks first =
+          called-next w F s S call [] (both-and (le-leb _ _ (F .small i h)) (both-and (le-leb _ _ x-fits) ticks)) (s .places) goes
           (λ j k l m a b. only j l a ∙ sym (only k m b))
         where
           call : Call
@@ -138,10 +139,10 @@ module _ (w : Input) (F : Fixed w) (s : State) (S : Sound w s) where
 
       -- the release
 
-      release-sound : length (section .steps) < p .position → Sound w (called (w .scripts) (placed s i (at (suc (p .section)) 0)) (ask (Release (task i) (section .id))))
+      release-next : length (section .steps) < p .position → Next w s (called (w .scripts) (placed s i (at (suc (p .section)) 0)) (ask (Release (task i) (section .id))))
       unfolding perform
-      release-sound done =
-          called-sound w F s S call [] (both-and (le-leb _ _ (F .small i h)) (le-leb _ _ x-fits)) (set (s .places) i (at (suc (p .section)) 0)) goes one
+      release-next done =
+          called-next w F s S call [] (both-and (le-leb _ _ (F .small i h)) (le-leb _ _ x-fits)) (set (s .places) i (at (suc (p .section)) 0)) goes one
         where
           call : Call
           call = Release (task i) (section .id)
@@ -187,21 +188,9 @@ module _ (w : Input) (F : Fixed w) (s : State) (S : Sound w s) where
 
       -- a step
 
-      step-sound : 1 ≤ p .position → p .position ≤ length (section .steps) → Sound w (acted (w .scripts) s i (Steps (getD (section .steps) (pred (p .position)) NoStep)))
+      step-next : 1 ≤ p .position → p .position ≤ length (section .steps) → Next w s (acted (w .scripts) s i (Steps (getD (section .steps) (pred (p .position)) NoStep)))
       unfolding acted doSteps
-      step-sound inside last =
-          record {
-            agrees′ = S .agrees′;
-            started = S .started;
-            guards = S .guards;
-            stands = λ j l.
-                elim (ℕ-discrete j i) [
-                  | yes e ↦ subst (λ (k : ℕ). Stand (OfSection w) (s .tables) (scriptAt (w .scripts) k) (pred (task k)) (getD moved k (at 0 0))) (sym e)
-                    (subst (Stand (OfSection w) (s .tables) script c) (sym (getD-set-same (s .places) i _ (at 0 0) (omega (arith, S .serial .many)))) further)
-                  | no n ↦ subst (Stand (OfSection w) (s .tables) (scriptAt (w .scripts) j) (pred (task j))) (sym (getD-set-other (s .places) i j _ (at 0 0) n)) (S .stands j l)
-                ];
-            serial = step-taken (w .scripts) (F .single) (w .memory) s (S .serial) i h inside last commutes;
-          }
+      step-next inside last = record { sound = sound; granted = none refl }
         where
           moved : List Place
           moved = set (s .places) i (at (p .section) (suc (p .position)))
@@ -266,22 +255,37 @@ module _ (w : Input) (F : Fixed w) (s : State) (S : Sound w s) where
                   one-more : pred (task i) ≡ pred (g .task) → g .task ≡ task i
                   one-more z = sym its ∙ numbered w F j l ∙ ap suc (ap pred its ∙ sym z) ∙ sym (numbered w F i h)
 
-    pub turn-sound : Sound w (acted (w .scripts) s i (actOf (s .tables) script p))
+          sound : Sound w (acted (w .scripts) s i (Steps step))
+          sound =
+              record {
+                agrees′ = S .agrees′;
+                started = S .started;
+                guards = S .guards;
+                stands = λ j l.
+                    elim (ℕ-discrete j i) [
+                      | yes e ↦ subst (λ (k : ℕ). Stand (OfSection w) (s .tables) (scriptAt (w .scripts) k) (pred (task k)) (getD moved k (at 0 0))) (sym e)
+                        (subst (Stand (OfSection w) (s .tables) script c) (sym (getD-set-same (s .places) i _ (at 0 0) (omega (arith, S .serial .many)))) further)
+                      | no n ↦ subst (Stand (OfSection w) (s .tables) (scriptAt (w .scripts) j) (pred (task j))) (sym (getD-set-other (s .places) i j _ (at 0 0) n)) (S .stands j l)
+                    ];
+                serial = step-taken (w .scripts) (F .single) (w .memory) s (S .serial) i h inside last commutes;
+              }
+
+    pub turn-next : Next w s (acted (w .scripts) s i (actOf (s .tables) script p))
     unfolding actOf acted
-    turn-sound =
-        choose-cases Q (waits (taskOf (s .tables) (task i)) or leb (length (script .sections)) (p .section)) _ _ (λ e. S)
+    turn-next =
+        choose-cases Q (waits (taskOf (s .tables) (task i)) or leb (length (script .sections)) (p .section)) _ _ (λ e. record { sound = S; granted = none refl })
         (λ e.
         let ready : waits (taskOf (s .tables) (task i)) ≡ false = not-first _ _ e in
         let more : p .section < length (script .sections) = leb-false _ _ (not-second _ _ e) in
         choose-cases Q (eqb (p .position) 0) _ _
-        (λ z. obtain-sound ready more (waitOf (section .options) (section .timeout)) (wait-fits (section .options) (section .timeout) (F .timeouts i (p .section) h more)) (eqb-true _ _ z))
+        (λ z. obtain-next ready more (waitOf (section .options) (section .timeout)) (wait-fits (section .options) (section .timeout) (F .timeouts i (p .section) h more)) (eqb-true _ _ z))
         (λ z.
         let some : p .position ≢ 0 = eqb-false _ _ z in
         choose-cases Q (leb (p .position) (length (section .steps))) _ _
-        (λ y. step-sound ready more (omega arith) (leb-true _ _ y)) (λ y. release-sound ready more (leb-false _ _ y))))
+        (λ y. step-next ready more (omega arith) (leb-true _ _ y)) (λ y. release-next ready more (leb-false _ _ y))))
       where
         Q : Act → Type 0
-        Q a = Sound w (acted (w .scripts) s i a)
+        Q a = Next w s (acted (w .scripts) s i a)
 
         not-first : (a b : Bool) → (a or b) ≡ false → a ≡ false
         not-first a b e = ⊎-elim (λ (t : a ≡ true). never (or-first a b t) e) (λ (f : a ≡ false). f) (tested a)
@@ -291,8 +295,8 @@ module _ (w : Input) (F : Fixed w) (s : State) (S : Sound w s) where
 
   -- ---- any event
 
-  pub event-sound : (e : Event) → eventFits e ≡ true → isAllowed w e ≡ true → Sound w (eventOf (w .scripts) s e)
+  pub event-next : (e : Event) → eventFits e ≡ true → isAllowed w e ≡ true → Next w s (eventOf (w .scripts) s e)
   unfolding eventOf
-  event-sound (Turn q) fits allowed = turn-sound (indexOf q (w .scripts)) (ltb-true _ _ allowed)
-  event-sound (Other r) fits allowed = other-sound r fits allowed
-  event-sound NoEvent fits allowed = S
+  event-next (Turn q) fits allowed = turn-next (indexOf q (w .scripts)) (ltb-true _ _ allowed)
+  event-next (Other r) fits allowed = other-next r fits allowed
+  event-next NoEvent fits allowed = record { sound = S; granted = none refl }

@@ -22,7 +22,7 @@ pub is-grant : (g h : Grant) → g ≡ h → isGrant g h ≡ true
 is-grant g h e = both-and (eq-eqb _ _ (ap (λ (z : Grant). z .task) e)) (eq-eqb _ _ (ap (λ (z : Grant). z .section) e))
 
 -- how often a section is granted
-pub times : Grant → List Grant → ℕ
+unfoldable pub times : Grant → List Grant → ℕ
 times g [] = 0
 times g (h ∷ hs) = bit (isGrant g h) + times g hs
 
@@ -32,7 +32,7 @@ times-append g h [] = omega arith
 times-append g h (k ∷ gs) = omega (arith, times-append g h gs)
 
 -- each grant takes the steps that `rest` leaves it
-pub finish : (Grant → List Step) → List Grant → Memory → Memory
+unfoldable pub finish : (Grant → List Step) → List Grant → Memory → Memory
 finish rest [] m = m
 finish rest (g ∷ gs) m = finish rest gs (doSteps (g .task) (rest g) m)
 

@@ -1,7 +1,7 @@
 -- Every event of a run that is not refused keeps what holds of the tables, the places, the grants and the memory.
 use mathlib.Core.Path.{_≡_, refl, sym, subst, ap, _∙_}
 use mathlib.Core.Bool.{Bool, true, false}
-use mathlib.Core.List.{List, [], _∷_, _++_}
+use mathlib.Core.List.{List, [], _∷_, _++_, append-nil}
 use mathlib.Core.Logic.{_⊎_, inl, inr, ⊎-elim, _≢_}
 use Prim.Native.Nat.{ℕ, suc, pred, _≤_, _<_}
 use native.Mathlib.Omega.{arith}
@@ -31,6 +31,7 @@ use Rattle.sections.proofs.Others.{Woken, Observed, handedTo}
 use Rattle.sections.proofs.Observing.{observed}
 use Rattle.sections.proofs.Standing.{Guard, idAt, Stand, performs, back, guard-kept, place-said, place-granted, place-skipped, said-same, said-woken, stand-other}
 use Rattle.sections.proofs.Footprints.{AllSteps}
+use Rattle.sections.proofs.Indices.{some-or-none, rows-none, rows-one}
 use Rattle.sections.proofs.Serial.{Serial, Move, same-script, moved}
 use Rattle.sections.proofs.Serial.Move.{stays, passes, enters}
 
@@ -58,6 +59,16 @@ pub record Sound (w : Input) (s : State) : Type 0 where
   pub guards : (y : ℕ) → OfSection w y → Guard (s .tables) y
   pub stands : (i : ℕ) → i < length (w .scripts) → Stand (OfSection w) (s .tables) (scriptAt (w .scripts) i) (pred (scriptAt (w .scripts) i .task)) (placeAt s i)
   pub serial : Serial (w .scripts) (w .memory) s
+
+-- one event grants at most one section
+pub data AtMostOne (before after : List Grant) : Type 0 where
+  none : after ≡ before → AtMostOne before after
+  one : (g : Grant) → after ≡ before ++ g ∷ [] → AtMostOne before after
+
+-- what an event leaves
+pub record Next (w : Input) (s s′ : State) : Type 0 where
+  pub sound : Sound w s′
+  pub granted : AtMostOne (s .grants) (s′ .grants)
 
 -- a script's move, by what a call says to its obtain
 pub move-said : (steps : List Step) (answer : ℕ) (p : Place) → (answer ≢ 100 → p .position ≡ 0) → Move steps p (placeAfter answer p) (eqb answer 0)
@@ -161,14 +172,14 @@ module _ (w : Input) (F : Fixed w) where
     pub goes-seen : (i : ℕ) → i < N → task i ≢ callerOf call → Goes i (placeAt s i)
     goes-seen i h n = record { stand = stand-seen i h n; move = move-said _ (answer i) (placeAt s i) (first-seen i h n); same = λ e. refl }
 
-    module _ (fits : callFits call ≡ true) (ps : List Place) (goes : (i : ℕ) → i < N → Goes i (getD ps i (at 0 0))) (one : (i k : ℕ) → i < N → k < N → answer i ≡ 0 → answer k ≡ 0 → i ≡ k) where
+    module _ (fits : callFits call ≡ true) (ps : List Place) (goes : (i : ℕ) → i < N → Goes i (getD ps i (at 0 0))) (sole : (i k : ℕ) → i < N → k < N → answer i ≡ 0 → answer k ≡ 0 → i ≡ k) where
       abbrev before : State
       before = record { tables = t; memory = s .memory; places = ps; grants = s .grants }
 
       abbrev after : State
       after = called (w .scripts) before (record { call = call; priorities = priorities })
 
-      pub called-sound : Sound w after
+      called-sound : Sound w after
       unfolding called
       called-sound =
           record {
@@ -182,7 +193,7 @@ module _ (w : Input) (F : Fixed w) where
             serial = moved (w .scripts) (F .single) (w .memory) s (S .serial) after refl (length-tabulate N _) (λ i. eqb (answer i) 0)
                 (λ i h. subst (λ (p : Place). Move (sectionAt (script i) (placeAt s i .section) .steps) (placeAt s i) p (eqb (answer i) 0)) (sym (place i h)) (goes i h .move))
                 (ap (λ (gs : List (List Grant)). s .grants ++ rows gs) (tabulate-same N _ _ grants))
-                (λ i k h l a b. one i k h l (eqb-true _ _ a) (eqb-true _ _ b));
+                (λ i k h l a b. sole i k h l (eqb-true _ _ a) (eqb-true _ _ b));
           }
         where
           place : (i : ℕ) → i < N → placeAt after i ≡ placeAfter (answer i) (getD ps i (at 0 0))
@@ -193,3 +204,19 @@ module _ (w : Input) (F : Fixed w) where
               choose-cases (λ (gs : List Grant). gs ≡ grantIf (eqb (answer i) 0) (task i) (placeAt s i .section)) (eqb (answer i) 0) _ []
               (λ e. ap (λ (k : ℕ). record { task = task i; section = k } ∷ []) (goes i h .same e) ∙ sym (if-yes _ _ e))
               (λ e. sym (if-no _ _ e))
+
+      called-one : AtMostOne (s .grants) (after .grants)
+      unfolding called
+      called-one =
+          ⊎-elim
+          (λ (k : (k : ℕ) × (k < N) × (eqb (answer k) 0 ≡ true)).
+          one (granted (k .0)) (ap (λ (gs : List Grant). s .grants ++ gs) (rows-one N (λ i. eqb (answer i) 0) granted (k .0) (k .1) (k .2)
+          (λ i h e. sole i (k .0) h (k .1) (eqb-true _ _ e) (eqb-true _ _ (k .2))))))
+          (λ (f : (i : ℕ) → i < N → eqb (answer i) 0 ≡ false). none (ap (λ (gs : List Grant). s .grants ++ gs) (rows-none N (λ i. eqb (answer i) 0) granted f) ∙ append-nil (s .grants)))
+          (some-or-none N (λ i. eqb (answer i) 0))
+        where
+          granted : ℕ → Grant
+          granted i = record { task = task i; section = getD ps i (at 0 0) .section }
+
+      pub called-next : Next w s after
+      called-next = record { sound = called-sound; granted = called-one }

@@ -10,3 +10,5 @@ pub mod Indices
 pub mod Serial
 pub mod Kept
 pub mod Events
+pub mod Accepted
+pub mod Demand3
