@@ -5,7 +5,7 @@ use mathlib.Core.List.{List, [], _∷_, _++_}
 use mathlib.Core.Logic.{_⊎_, inl, inr, ⊎-elim, _≢_}
 use Prim.Native.Nat.{ℕ, suc, pred, _%_, _≤_, _<_}
 use native.Mathlib.Omega.{arith}
-use native.Mathlib.Decide.{decLt}
+use native.Mathlib.Decide.{ℕ-discrete, decLt}
 use lib.Dec.{leb, eqb}
 use lib.ListN.{length, getD, List·getD-eq-default}
 use borrow.Author.Tests.{eqb-true, ne-eqb, leb-false}
@@ -15,12 +15,13 @@ use Rattle.rules.specs.Machine.{Tables, slotOf, names, next}
 use Rattle.rules.specs.Agreement.{Agrees}
 use Rattle.sections.specs.Scripts.{Step, Script, Memory, Grant, scriptAt, indexOf, plain}
 use Rattle.sections.specs.Run.{Event, Place, at, State, placeAt, eventOf, runFrom, openOf}
-use Rattle.sections.specs.Refusals.{Input, refusal, atFirst, Ran, run, inputFits}
+use Rattle.sections.specs.Refusals.{Input, isAllowed, refusal, atFirst, Ran, run, eventFits, inputFits}
 use Rattle.sections.proofs.Standing.{Owns, idAt}
 use Rattle.sections.proofs.Finishing.{finish, finish-none}
 use Rattle.sections.proofs.Indices.{rows-empty}
 use Rattle.sections.proofs.Serial.{closed, isOpenAt, restOf, same-script}
 use Rattle.sections.proofs.Kept.{Fixed, Sound, Next, AtMostOne, numbered}
+use Rattle.sections.proofs.Events.{event-next}
 use Rattle.sections.proofs.Accepted.{Accepted, accepted, run-sound}
 
 -- the list of events is run, or refused
@@ -51,10 +52,56 @@ pub demand-3 : (t : Tables) (w : Input) (events : List Event) → inputFits w ev
     → run t w events .state .memory ≡ plain (w .scripts) (run t w events .state .grants) (w .memory)
 unfolding plain
 demand-3 t w events fits none =
-    elim (native.Mathlib.Decide.ℕ-discrete (refusal t w events) 0) [
+    elim (ℕ-discrete (refusal t w events) 0) [
       | yes e ↦
         let a : Accepted t w events = accepted t w events e fits in
         subst (λ (s : State). openOf (w .scripts) s ≡ [] → s .memory ≡ plain (w .scripts) (s .grants) (w .memory)) (sym (ran t w events e))
         (closed-serial w (runFrom (w .scripts) (atFirst t w) events) (run-sound w (a .fixed) (atFirst t w) (a .first) events (a .allowed) (a .fit))) none
       | no n ↦ subst (λ (s : State). s .memory ≡ plain (w .scripts) (s .grants) (w .memory)) (sym (refused-keeps t w events n)) refl
     ]
+
+-- ---- what else holds of a run
+
+-- the run of two lists, one after the other, is the run of the whole
+pub run-halves : (scripts : List Script) (s : State) (a b : List Event) → runFrom scripts s (a ++ b) ≡ runFrom scripts (runFrom scripts s a) b
+unfolding runFrom
+run-halves scripts s [] b = refl
+run-halves scripts s (e ∷ es) b = run-halves scripts (eventOf scripts s e) es b
+
+module _ (t : Tables) (w : Input) (events : List Event) (fits : inputFits w events ≡ true) where
+  -- agreement is kept
+  pub run-agrees : Agrees t → Agrees (run t w events .state .tables)
+  run-agrees a =
+      elim (ℕ-discrete (refusal t w events) 0) [
+        | yes e ↦ subst (λ (s : State). Agrees (s .tables)) (sym (ran t w events e)) (sound e .agrees′)
+        | no n ↦ subst (λ (s : State). Agrees (s .tables)) (sym (refused-keeps t w events n)) a
+      ]
+    where
+      sound : refusal t w events ≡ 0 → Sound w (runFrom (w .scripts) (atFirst t w) events)
+      sound e = let a : Accepted t w events = accepted t w events e fits in run-sound w (a .fixed) (atFirst t w) (a .first) events (a .allowed) (a .fit)
+
+  module _ (passed : refusal t w events ≡ 0) where
+    abbrev left : State
+    left = runFrom (w .scripts) (atFirst t w) events
+
+    a : Accepted t w events
+    a = accepted t w events passed fits
+
+    sound : Sound w left
+    sound = run-sound w (a .fixed) (atFirst t w) (a .first) events (a .allowed) (a .fit)
+
+    -- an open section's task owns the semaphore with nest 1
+    pub open-owned : (i : ℕ) → i < length (w .scripts) → 1 ≤ placeAt left i .position → Owns (left .tables) (scriptAt (w .scripts) i .task) (idAt (scriptAt (w .scripts) i) (placeAt left i .section))
+    open-owned i h o =
+        subst (λ (q : ℕ). Owns (left .tables) q (idAt (scriptAt (w .scripts) i) (placeAt left i .section))) (sym (numbered w (a .fixed) i h)) (sound .stands i h .open′ o)
+
+    -- at most one section is open for an identifier
+    pub open-alone : (i j : ℕ) → i < length (w .scripts) → j < length (w .scripts) → 1 ≤ placeAt left i .position → 1 ≤ placeAt left j .position
+        → idAt (scriptAt (w .scripts) i) (placeAt left i .section) ≡ idAt (scriptAt (w .scripts) j) (placeAt left j .section) → i ≡ j
+    open-alone i j h l o p e =
+        same-script (w .scripts) (a .fixed .single) (w .memory) left (sound .serial) i j h l
+        (sym (open-owned i h o .owner) ∙ ap (λ (y : ℕ). slotOf (left .tables) (y % 65536) .owner) e ∙ open-owned j l p .owner)
+
+    -- one event more, whatever follows it, grants at most one section
+    pub event-grants-one : (e : Event) → eventFits e ≡ true → isAllowed w e ≡ true → AtMostOne (left .grants) (eventOf (w .scripts) left e .grants)
+    event-grants-one e fit allowed = event-next w (a .fixed) left sound e fit allowed .granted
