@@ -53,6 +53,12 @@ id-fits t f x u =
     let most : slotOf t (x % 65536) .generation ≤ 65535 = f .slots (pred (x % 65536)) .generation in
     omega (arith, u .reached)
 
+pub not-first : (a b : Bool) → (a or b) ≡ false → a ≡ false
+not-first a b e = ⊎-elim (λ (t : a ≡ true). never (or-first a b t) e) (λ (f : a ≡ false). f) (tested a)
+
+pub not-second : (a b : Bool) → (a or b) ≡ false → b ≡ false
+not-second a b e = ⊎-elim (λ (t : b ≡ true). never (or-second a b t) e) (λ (f : b ≡ false). f) (tested b)
+
 module _ (w : Input) (F : Fixed w) (s : State) (S : Sound w s) where
   abbrev N : ℕ
   N = length (w .scripts)
@@ -60,22 +66,22 @@ module _ (w : Input) (F : Fixed w) (s : State) (S : Sound w s) where
   abbrev task : ℕ → ℕ
   task i = scriptAt (w .scripts) i .task
 
-  same-task : (i j : ℕ) → i < N → j < N → task i ≡ task j → i ≡ j
+  pub same-task : (i j : ℕ) → i < N → j < N → task i ≡ task j → i ≡ j
   same-task = same-script (w .scripts) (F .single) (w .memory) s (S .serial)
 
   -- ---- a call by someone else
 
-  pub other-next : (r : Request) → callFits (r .call) ≡ true → isAllowed w (Other r) ≡ true → Next w s (called (w .scripts) s r)
+  pub not-caller : (r : Request) → isAllowed w (Other r) ≡ true → (i : ℕ) → i < N → task i ≢ callerOf (r .call)
+  not-caller r allowed i h e =
+      let out : N ≤ indexOf (callerOf (r .call)) (w .scripts) = ltb-false _ _ (isnt-false _ allowed) in
+      let in′ : indexOf (callerOf (r .call)) (w .scripts) ≡ i = ap (λ (q : ℕ). indexOf q (w .scripts)) (sym e) ∙ F .single i h in
+      omega arith
+
+  other-next : (r : Request) → callFits (r .call) ≡ true → isAllowed w (Other r) ≡ true → Next w s (called (w .scripts) s r)
   other-next r fits allowed =
-      called-next w F s S (r .call) (r .priorities) fits (s .places) (λ i h. goes-seen w F s S (r .call) (r .priorities) i h (apart i h))
+      called-next w F s S (r .call) (r .priorities) fits (s .places) (λ i h. goes-seen w F s S (r .call) (r .priorities) i h (not-caller r allowed i h))
       (λ i k h l a b.
-      same-task i k h l (sym (granted-seen w F s S (r .call) (r .priorities) i h (apart i h) a) ∙ granted-seen w F s S (r .call) (r .priorities) k l (apart k l) b))
-    where
-      apart : (i : ℕ) → i < N → task i ≢ callerOf (r .call)
-      apart i h e =
-          let out : N ≤ indexOf (callerOf (r .call)) (w .scripts) = ltb-false _ _ (isnt-false _ allowed) in
-          let in′ : indexOf (callerOf (r .call)) (w .scripts) ≡ i = ap (λ (q : ℕ). indexOf q (w .scripts)) (sym e) ∙ F .single i h in
-          omega arith
+      same-task i k h l (sym (granted-seen w F s S (r .call) (r .priorities) i h (not-caller r allowed i h) a) ∙ granted-seen w F s S (r .call) (r .priorities) k l (not-caller r allowed k l) b))
 
   -- ---- a turn of script i
 
@@ -270,7 +276,7 @@ module _ (w : Input) (F : Fixed w) (s : State) (S : Sound w s) where
                 serial = step-taken (w .scripts) (F .single) (w .memory) s (S .serial) i h inside last commutes;
               }
 
-    pub turn-next : Next w s (acted (w .scripts) s i (actOf (s .tables) script p))
+    turn-next : Next w s (acted (w .scripts) s i (actOf (s .tables) script p))
     unfolding actOf acted
     turn-next =
         choose-cases Q (waits (taskOf (s .tables) (task i)) or leb (length (script .sections)) (p .section)) _ _ (λ e. record { sound = S; granted = none refl })
@@ -286,12 +292,6 @@ module _ (w : Input) (F : Fixed w) (s : State) (S : Sound w s) where
       where
         Q : Act → Type 0
         Q a = Next w s (acted (w .scripts) s i a)
-
-        not-first : (a b : Bool) → (a or b) ≡ false → a ≡ false
-        not-first a b e = ⊎-elim (λ (t : a ≡ true). never (or-first a b t) e) (λ (f : a ≡ false). f) (tested a)
-
-        not-second : (a b : Bool) → (a or b) ≡ false → b ≡ false
-        not-second a b e = ⊎-elim (λ (t : b ≡ true). never (or-second a b t) e) (λ (f : b ≡ false). f) (tested b)
 
   -- ---- any event
 

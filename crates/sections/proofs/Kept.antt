@@ -9,10 +9,10 @@ use native.Mathlib.Decide.{ℕ-discrete}
 use lib.Dec.{eqb}
 use lib.ListN.{length, getD, set, length-set}
 use lib.Seq.{getD-set-same, getD-set-other}
-use borrow.Author.Tests.{eqb-true, ltb-true, ltb-false, leb-true, ne-eqb}
+use borrow.Author.Tests.{eqb-true, eq-eqb, ne-eqb}
 use Rattle.laws.specs.Choose.{choose}
 use Rattle.laws.specs.Rows.{tabulate, rows}
-use Rattle.laws.proofs.Choose.{choose-cases, never, if-yes, if-no, isnt-false}
+use Rattle.laws.proofs.Choose.{choose-cases, and-both, tested, if-yes, if-no}
 use Rattle.laws.proofs.Fit.{length-tabulate, getD-tabulate, tabulate-same}
 use Rattle.rules.specs.declared.Call.{Call}
 use Rattle.rules.specs.Numbers.{maxNumber}
@@ -25,11 +25,11 @@ use Rattle.rules.proofs.Invariants.FromTests.{agrees-facts}
 use Rattle.rules.proofs.Invariants.Kept.{kept}
 use Rattle.rules.proofs.Invariants.Links.{SameWait}
 use Rattle.sections.specs.Scripts.{Step, Script, Memory, Grant, scriptAt, sectionAt, indexOf}
-use Rattle.sections.specs.Run.{Place, at, State, placeAt, callerOf, said, placeAfter, grantIf, called}
+use Rattle.sections.specs.Run.{Place, at, State, placeAt, callerOf, obtainsBy, said, placeAfter, grantIf, called}
 use Rattle.sections.specs.Refusals.{Input}
 use Rattle.sections.proofs.Others.{Woken, Observed, handedTo}
 use Rattle.sections.proofs.Observing.{observed}
-use Rattle.sections.proofs.Standing.{Guard, idAt, Stand, performs, back, guard-kept, place-said, place-granted, place-skipped, said-same, said-woken, stand-other}
+use Rattle.sections.proofs.Standing.{Guard, idAt, Stand, performs, back, guard-kept, place-said, place-granted, place-skipped, unlike, said-same, said-woken, stand-other}
 use Rattle.sections.proofs.Footprints.{AllSteps}
 use Rattle.sections.proofs.Indices.{some-or-none, rows-none, rows-one}
 use Rattle.sections.proofs.Serial.{Serial, Move, same-script, moved}
@@ -160,6 +160,19 @@ module _ (w : Input) (F : Fixed w) where
           ⊎-elim (λ (z : SameWait (nthTask t (c i)) (nthTask (o .tables) (c i))). absurd (omega (arith, same-said z)))
           (λ (z : Woken t (o .tables) (c i) (handedTo t call)). z .got (sym (woken-said z) ∙ e) .only ∙ sym (numbered i h))
           (seen .task)
+
+      -- it waits on, or its wait has ended
+      pub waits-seen : waits (nthTask (o .tables) (c i)) ≡ choose (eqb (answer i) 100) (waits (nthTask t (c i))) false
+      waits-seen =
+          ⊎-elim
+          (λ (z : SameWait (nthTask t (c i)) (nthTask (o .tables) (c i))). ap (λ (n : ℕ). eqb n 100) (z .answer) ∙ sym (if-yes _ _ (eq-eqb (answer i) 100 (same-said z))))
+          (λ (z : Woken t (o .tables) (c i) (handedTo t call)).
+          z .ready ∙ sym (if-no _ _ (ne-eqb (answer i) 100 (λ e. unlike (nthTask (o .tables) (c i)) (z .ready) (sym (woken-said z) ∙ e)))))
+          (seen .task)
+
+      pub silent-seen : obtainsBy (task i) call ≡ false
+      silent-seen =
+          ⊎-elim (λ (e : obtainsBy (task i) call ≡ true). absurd (other (sym (eqb-true _ _ (and-both _ _ e .1))))) (λ (e : obtainsBy (task i) call ≡ false). e) (tested (obtainsBy (task i) call))
 
     -- ---- all scripts
 

@@ -11,4 +11,6 @@ pub mod Serial
 pub mod Kept
 pub mod Events
 pub mod Accepted
+pub mod Reading
+pub mod Histories
 pub mod Demand3

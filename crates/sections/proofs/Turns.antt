@@ -7,7 +7,8 @@ use Prim.Native.Nat.{ℕ, suc, pred, _+_, _*_, _/_, _%_, _≤_, _<_}
 use native.Mathlib.Omega.{arith}
 use native.Mathlib.Decide.{ℕ-discrete}
 use lib.ListN.{length}
-use borrow.Author.Tests.{eq-eqb}
+use lib.Dec.{eqb}
+use borrow.Author.Tests.{eq-eqb, ne-eqb}
 use Rattle.laws.specs.Choose.{choose}
 use Rattle.laws.proofs.Choose.{both-and, never, if-yes, if-no}
 use Rattle.rules.specs.declared.Call.the-variants.{Obtain, Release}
@@ -33,6 +34,12 @@ said-own t c x wait o ready = if-no _ _ ready ∙ if-yes _ _ (both-and refl (eq-
 pub said-released : (t : Tables) (c q x : ℕ) (o : Outcome) → waits (nthTask t c) ≡ false → said t (Release q x) o (suc c) ≡ 100
 unfolding said kindOf choose
 said-released t c q x o ready = if-no _ _ ready
+
+-- it waits exactly where its obtain answers 100
+pub own-waits : (t : Tables) (c x : ℕ) (o : Outcome) → waits (nthTask t c) ≡ false → Obtained t c x o → waits (nthTask (o .tables) c) ≡ eqb (o .answer .status) 100
+own-waits t c x o ready (refusing same n m) = ap (λ (u : Tables). waits (nthTask u c)) same ∙ ready ∙ sym (ne-eqb (o .answer .status) 100 m)
+own-waits t c x o ready (taking j z l is task l′ g holds others) = ap (λ (v : Task). waits v) task ∙ ready ∙ sym (ap (λ (n : ℕ). eqb n 100) z)
+own-waits t c x o ready (waiting z w awaited owners) = w ∙ sym (eq-eqb (o .answer .status) 100 z)
 
 module _ (G : ℕ → Type 0) (t : Tables) (f : Facts t) (guards : (y : ℕ) → G y → Guard t y) (script : Script) (ids : (k : ℕ) → k < length (script .sections) → G (idAt script k)) (c : ℕ)
     (p : Place) (st : Stand G t script c p) (ready : waits (nthTask t c) ≡ false) (more : p .section < length (script .sections)) where
@@ -112,14 +119,9 @@ module _ (G : ℕ → Type 0) (t : Tables) (f : Facts t) (guards : (y : ℕ) →
     abbrev u : Tables
     u = release t (suc c) x .tables
 
-    pub stand-release : Stand G u script c (at (suc (p .section)) 0)
-    stand-release =
-        record {
-          within = λ h. absurd (omega arith);
-          open′ = λ h. absurd (omega arith);
-          own = λ y g n e. let l = given-up .left (pred (y % 65536)) e in absurd (l .0 (ap (λ (z : ℕ). pred (z % 65536)) (st .own y g (back y g n) (l .1) .1)));
-          waits′ = λ w. never w (given-up .ready);
-        }
+    pub given-up : Released t u c (pred (x % 65536))
+    given-up =
+        released t f c (pred (x % 65536)) (m .lives) (guards x (ids _ more) .binary (has .named)) (record { owner = has .owner; nest = has .nest }) ready x (has .named) is
       where
         has : Owns t (suc c) x
         has = st .open′ inside
@@ -130,6 +132,11 @@ module _ (G : ℕ → Type 0) (t : Tables) (f : Facts t) (guards : (y : ℕ) →
         is : x ≡ idOf (suc (pred (x % 65536))) (nthSlot t (pred (x % 65536)))
         is = omega (arith, m .low, m .generation)
 
-        given-up : Released t u c (pred (x % 65536))
-        given-up =
-            released t f c (pred (x % 65536)) (m .lives) (guards x (ids _ more) .binary (has .named)) (record { owner = has .owner; nest = has .nest }) ready x (has .named) is
+    pub stand-release : Stand G u script c (at (suc (p .section)) 0)
+    stand-release =
+        record {
+          within = λ h. absurd (omega arith);
+          open′ = λ h. absurd (omega arith);
+          own = λ y g n e. let l = given-up .left (pred (y % 65536)) e in absurd (l .0 (ap (λ (z : ℕ). pred (z % 65536)) (st .own y g (back y g n) (l .1) .1)));
+          waits′ = λ w. never w (given-up .ready);
+        }
