@@ -42,6 +42,7 @@ pub record Accepted (t : Tables) (w : Input) (events : List Event) : Type 0 wher
   pub agreeing : Agrees t
   pub fixed : Fixed w
   pub first : Sound w (atFirst t w)
+  pub ready : (i : ℕ) → i < length (w .scripts) → waits (taskOf t (scriptAt (w .scripts) i .task)) ≡ false
   pub allowed : (k : ℕ) → k < length events → isAllowed w (getD events k NoEvent) ≡ true
   pub fit : (k : ℕ) → k < length events → eventFits (getD events k NoEvent) ≡ true
 
@@ -147,6 +148,7 @@ module _ (t : Tables) (w : Input) (events : List Event) (passed : refusal t w ev
         agreeing = agreeing;
         fixed = fixed;
         first = first;
+        ready = task-ready;
         allowed = all-at _ _ (and-both _ _ (tests .2) .1);
         fit = all-at _ _ (and-both _ _ fits .1);
       }

@@ -3,25 +3,29 @@ use mathlib.Core.Path.{_≡_, refl, sym, subst, ap, _∙_}
 use mathlib.Core.Bool.{Bool, true, false}
 use mathlib.Core.List.{List, [], _∷_, _++_}
 use mathlib.Core.Logic.{_⊎_, inl, inr, ⊎-elim, _≢_}
-use Prim.Native.Nat.{ℕ, suc, pred, _%_, _≤_, _<_}
+use Prim.Native.Nat.{ℕ, _+_, _%_, _≤_, _<_}
 use native.Mathlib.Omega.{arith}
 use native.Mathlib.Decide.{ℕ-discrete, decLt}
 use lib.Dec.{leb, eqb}
 use lib.ListN.{length, getD, List·getD-eq-default}
 use borrow.Author.Tests.{eqb-true, ne-eqb, leb-false}
-use Rattle.laws.specs.Choose.{choose}
-use Rattle.laws.proofs.Choose.{tested, if-yes, if-no}
-use Rattle.rules.specs.Machine.{Tables, slotOf, names, next}
+use Rattle.laws.specs.Choose.{choose, _or_, bit}
+use Rattle.laws.proofs.Choose.{choose-same, if-yes, if-no}
+use Rattle.laws.proofs.Fit.{getD-same}
+use Rattle.rules.specs.Machine.{Tables, taskOf, slotOf, waits, next}
 use Rattle.rules.specs.Agreement.{Agrees}
 use Rattle.sections.specs.Scripts.{Step, Script, Memory, Grant, scriptAt, indexOf, plain}
 use Rattle.sections.specs.Run.{Event, Place, at, State, placeAt, eventOf, runFrom, openOf}
 use Rattle.sections.specs.Refusals.{Input, isAllowed, refusal, atFirst, Ran, run, eventFits, inputFits}
+use Rattle.sections.specs.History.{answersIn, history, grantsShown}
+use Rattle.rules.proofs.Invariants.Lists.{bit-no}
 use Rattle.sections.proofs.Standing.{Owns, idAt}
 use Rattle.sections.proofs.Finishing.{finish, finish-none}
 use Rattle.sections.proofs.Indices.{rows-empty}
 use Rattle.sections.proofs.Serial.{closed, isOpenAt, restOf, same-script}
 use Rattle.sections.proofs.Kept.{Fixed, Sound, Next, AtMostOne, numbered}
 use Rattle.sections.proofs.Events.{event-next}
+use Rattle.sections.proofs.Histories.{run-reads}
 use Rattle.sections.proofs.Accepted.{Accepted, accepted, run-sound}
 
 -- the list of events is run, or refused
@@ -29,9 +33,21 @@ ran : (t : Tables) (w : Input) (events : List Event) → refusal t w events ≡ 
 unfolding run
 ran t w events e = if-yes _ _ (borrow.Author.Tests.eq-eqb (refusal t w events) 0 e)
 
+-- a refused run changes nothing: tables, cells and locals stay, places are at the start, no grant is reported; its answer is that of any refusal
 pub refused-keeps : (t : Tables) (w : Input) (events : List Event) → refusal t w events ≢ 0 → run t w events .state ≡ atFirst t w
 unfolding run
 refused-keeps t w events n = if-no _ _ (ne-eqb (refusal t w events) 0 n)
+
+pub refused-answer : (t : Tables) (w : Input) (events : List Event) → refusal t w events ≢ 0
+    → run t w events .answer ≡ record { status = refusal t w events; value = 0; next = choose (eqb (refusal t w events) 25) 0 (next t) }
+unfolding run
+refused-answer t w events n =
+    ap (λ (s : State). record { status = refusal t w events; value = 0; next = choose (eqb (refusal t w events) 25) 0 (next (s .tables)) }) (if-no _ _ (ne-eqb (refusal t w events) 0 n))
+
+-- an empty list of events changes nothing
+pub empty-keeps : (t : Tables) (w : Input) → run t w [] .state ≡ atFirst t w
+unfolding run runFrom
+empty-keeps t w = choose-same (eqb (refusal t w []) 0) (atFirst t w)
 
 -- with no section open, nothing is left to do
 closed-serial : (w : Input) (s : State) → Sound w s → openOf (w .scripts) s ≡ [] → s .memory ≡ plain (w .scripts) (s .grants) (w .memory)
@@ -89,6 +105,18 @@ module _ (t : Tables) (w : Input) (events : List Event) (fits : inputFits w even
 
     sound : Sound w left
     sound = run-sound w (a .fixed) (atFirst t w) (a .first) events (a .allowed) (a .fit)
+
+    -- the grants reported are exactly those that the calls' answers make, sections open or not
+    pub grants-shown : run t w events .state .grants ≡ grantsShown (w .scripts) (λ q. 0) (answersIn t) (history (w .scripts) (atFirst t w) events)
+    grants-shown =
+        ap (λ (s : State). s .grants) (ran t w events passed)
+        ∙ run-reads w (a .fixed) (atFirst t w) (a .first) (λ q. 0) (record { each = none-yet }) events (a .allowed) (a .fit)
+      where
+        none-yet : (i : ℕ) → i < length (w .scripts)
+            → 0 ≡ placeAt (atFirst t w) i .section + bit (leb 1 (placeAt (atFirst t w) i .position) or waits (taskOf t (scriptAt (w .scripts) i .task)))
+        none-yet i h =
+            subst (λ (p : Place). 0 ≡ p .section + bit (leb 1 (p .position) or waits (taskOf t (scriptAt (w .scripts) i .task)))) (sym (getD-same (length (w .scripts)) (at 0 0) i))
+            (omega (arith, bit-no (leb 1 0 or waits (taskOf t (scriptAt (w .scripts) i .task))) (if-no true _ refl ∙ a .ready i h)))
 
     -- an open section's task owns the semaphore with nest 1
     pub open-owned : (i : ℕ) → i < length (w .scripts) → 1 ≤ placeAt left i .position → Owns (left .tables) (scriptAt (w .scripts) i .task) (idAt (scriptAt (w .scripts) i) (placeAt left i .section))
