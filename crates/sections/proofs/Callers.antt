@@ -144,12 +144,14 @@ module _ (t : Tables) (f : Facts t) (c j : ℕ) (l : isLive (nthSlot t j) ≡ tr
   handed-on : (q : ℕ) → q ≡ getD (nthSlot t j .queue) 0 0 → 1 ≤ length (nthSlot t j .queue) → Gives (record { status = 0; slot = handed (nthSlot t j) q; woken = q })
   handed-on zero is h =
       absurd (omega (arith, f .slots j .whenLive l .entries, subst (λ (q : ℕ). 1 ≤ occurs q (nthSlot t j .queue)) (sym is) (occurs-at (nthSlot t j .queue) 0 h)))
-  handed-on (suc w) is h =
-      (refl, subst (λ (z : Tables). Released t z c j) (sym (if-no _ _ (ne-eqb (suc w) 0 (omega arith))))
-      (record {
-        ready = subst (λ (v : Task). waits v ≡ false) (sym (getD-set-other (t .tasks) w c (readied (nthTask t w) 0) noTask apart)) ready;
-        left = owner-left (handed (nthSlot t j) (suc w)) (λ e. let s : suc w ≡ suc c = sym (if-yes _ _ b) ∙ e in apart (omega arith));
-      }))
+  handed-on (suc w) is h = (
+    refl,
+    subst (λ (z : Tables). Released t z c j) (sym (if-no _ _ (ne-eqb (suc w) 0 (omega arith))))
+        (record {
+          ready = subst (λ (v : Task). waits v ≡ false) (sym (getD-set-other (t .tasks) w c (readied (nthTask t w) 0) noTask apart)) ready;
+          left = owner-left (handed (nthSlot t j) (suc w)) (λ e. let s : suc w ≡ suc c = sym (if-yes _ _ b) ∙ e in apart (omega arith));
+        }),
+  )
     where
       -- the owner does not stand in the queue
       apart : c ≢ w

@@ -70,9 +70,9 @@ unfolding plain
 demand-3 t w events fits none =
     elim (ℕ-discrete (refusal t w events) 0) [
       | yes e ↦
-        let a : Accepted t w events = accepted t w events e fits in
-        subst (λ (s : State). openOf (w .scripts) s ≡ [] → s .memory ≡ plain (w .scripts) (s .grants) (w .memory)) (sym (ran t w events e))
-        (closed-serial w (runFrom (w .scripts) (atFirst t w) events) (run-sound w (a .fixed) (atFirst t w) (a .first) events (a .allowed) (a .fit))) none
+          let a : Accepted t w events = accepted t w events e fits in
+          subst (λ (s : State). openOf (w .scripts) s ≡ [] → s .memory ≡ plain (w .scripts) (s .grants) (w .memory)) (sym (ran t w events e))
+          (closed-serial w (runFrom (w .scripts) (atFirst t w) events) (run-sound w (a .fixed) (atFirst t w) (a .first) events (a .allowed) (a .fit))) none
       | no n ↦ subst (λ (s : State). s .memory ≡ plain (w .scripts) (s .grants) (w .memory)) (sym (refused-keeps t w events n)) refl
     ]
 

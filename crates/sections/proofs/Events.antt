@@ -178,7 +178,7 @@ module _ (w : Input) (F : Fixed w) (s : State) (S : Sound w s) where
           goes j l =
               elim (ℕ-discrete j i) [
                 | yes e ↦ subst (λ (k : ℕ). Goes w F s S call [] k (getD (set (s .places) i (at (suc (p .section)) 0)) k (at 0 0))) (sym e)
-                  (subst (Goes w F s S call [] i) (sym (getD-set-same (s .places) i (at (suc (p .section)) 0) (at 0 0) (omega (arith, S .serial .many)))) own)
+                    (subst (Goes w F s S call [] i) (sym (getD-set-same (s .places) i (at (suc (p .section)) 0) (at 0 0) (omega (arith, S .serial .many)))) own)
                 | no n ↦ subst (Goes w F s S call [] j) (sym (getD-set-other (s .places) i j (at (suc (p .section)) 0) (at 0 0) n)) (goes-seen w F s S call [] j l (λ e. n (same-task j i l h e)))
               ]
 
@@ -270,7 +270,7 @@ module _ (w : Input) (F : Fixed w) (s : State) (S : Sound w s) where
                 stands = λ j l.
                     elim (ℕ-discrete j i) [
                       | yes e ↦ subst (λ (k : ℕ). Stand (OfSection w) (s .tables) (scriptAt (w .scripts) k) (pred (task k)) (getD moved k (at 0 0))) (sym e)
-                        (subst (Stand (OfSection w) (s .tables) script c) (sym (getD-set-same (s .places) i _ (at 0 0) (omega (arith, S .serial .many)))) further)
+                          (subst (Stand (OfSection w) (s .tables) script c) (sym (getD-set-same (s .places) i _ (at 0 0) (omega (arith, S .serial .many)))) further)
                       | no n ↦ subst (Stand (OfSection w) (s .tables) (scriptAt (w .scripts) j) (pred (task j))) (sym (getD-set-other (s .places) i j _ (at 0 0) n)) (S .stands j l)
                     ];
                 serial = step-taken (w .scripts) (F .single) (w .memory) s (S .serial) i h inside last commutes;

@@ -114,7 +114,7 @@ module _ (w : Input) (F : Fixed w) (s : State) (S : Sound w s) (obtains : ℕ �
           (λ j l.
           elim (ℕ-discrete j i) [
             | yes e ↦ subst (λ (k : ℕ). Tells w s obtains C call [] k (getD (set (s .places) i (at (suc (p .section)) 0)) k (at 0 0))) (sym e)
-              (subst (Tells w s obtains C call [] i) (sym (getD-set-same (s .places) i (at (suc (p .section)) 0) (at 0 0) (omega (arith, S .serial .many)))) own)
+                (subst (Tells w s obtains C call [] i) (sym (getD-set-same (s .places) i (at (suc (p .section)) 0) (at 0 0) (omega (arith, S .serial .many)))) own)
             | no n ↦ subst (Tells w s obtains C call [] j) (sym (getD-set-other (s .places) i j (at (suc (p .section)) 0) (at 0 0) n)) (tells-seen call [] j l (λ e. n (same-task w F s S j i l h e)))
           ])
         where

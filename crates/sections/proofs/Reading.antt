@@ -68,20 +68,20 @@ module _ (p : Place) (answer obtains : ℕ) (waiting obtaining waiting′ : Bool
   counted-after =
       elim (ℕ-discrete answer 100) [
         | yes e ↦
-          subst (λ (q : Place). obtains + bit obtaining ≡ q .section + bit (leb 1 (q .position) or waiting′)) (sym (ap (λ (n : ℕ). placeAfter n p) e ∙ place-said p))
-          (let goes : waiting′ ≡ (waiting or obtaining) = after ∙ if-yes _ _ (eq-eqb answer 100 e) in
-          let sum = count-on (leb 1 (p .position)) waiting obtaining (λ o. (fresh o .0, lt-leb 1 (p .position) (omega (arith, fresh o .1)))) in
-          omega (arith, counted, sum, ap (λ (b : Bool). bit (leb 1 (p .position) or b)) goes))
+            subst (λ (q : Place). obtains + bit obtaining ≡ q .section + bit (leb 1 (q .position) or waiting′)) (sym (ap (λ (n : ℕ). placeAfter n p) e ∙ place-said p))
+            (let goes : waiting′ ≡ (waiting or obtaining) = after ∙ if-yes _ _ (eq-eqb answer 100 e) in
+            let sum = count-on (leb 1 (p .position)) waiting obtaining (λ o. (fresh o .0, lt-leb 1 (p .position) (omega (arith, fresh o .1)))) in
+            omega (arith, counted, sum, ap (λ (b : Bool). bit (leb 1 (p .position) or b)) goes))
         | no n ↦
-          let rests : waiting′ ≡ false = after ∙ if-no _ _ (ne-eqb answer 100 n) in
-          elim (ℕ-discrete answer 0) [
-            | yes e ↦
-              subst (λ (q : Place). obtains + bit obtaining ≡ q .section + bit (leb 1 (q .position) or waiting′)) (sym (ap (λ (n : ℕ). placeAfter n p) e ∙ place-granted p))
-              (omega (arith, one-more n, bit-yes (leb 1 1 or waiting′) (if-yes true waiting′ refl)))
-            | no m ↦
-              subst (λ (q : Place). obtains + bit obtaining ≡ q .section + bit (leb 1 (q .position) or waiting′)) (sym (place-skipped answer p m n))
-              (omega (arith, one-more n, bit-no (leb 1 0 or waiting′) (if-no true waiting′ refl ∙ rests)))
-          ]
+            let rests : waiting′ ≡ false = after ∙ if-no _ _ (ne-eqb answer 100 n) in
+            elim (ℕ-discrete answer 0) [
+              | yes e ↦
+                  subst (λ (q : Place). obtains + bit obtaining ≡ q .section + bit (leb 1 (q .position) or waiting′)) (sym (ap (λ (n : ℕ). placeAfter n p) e ∙ place-granted p))
+                  (omega (arith, one-more n, bit-yes (leb 1 1 or waiting′) (if-yes true waiting′ refl)))
+              | no m ↦
+                  subst (λ (q : Place). obtains + bit obtaining ≡ q .section + bit (leb 1 (q .position) or waiting′)) (sym (place-skipped answer p m n))
+                  (omega (arith, one-more n, bit-no (leb 1 0 or waiting′) (if-no true waiting′ refl ∙ rests)))
+            ]
       ]
 
 -- ---- one event

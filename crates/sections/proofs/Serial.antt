@@ -66,7 +66,6 @@ module _ (scripts : List Script) (single : (i : ℕ) → i < length scripts → 
       (moves : (i : ℕ) → i < N → Move (sectionAt (scriptAt scripts i) (placeAt s i .section) .steps) (placeAt s i) (placeAt s′ i) (b i))
       (grants : s′ .grants ≡ s .grants ++ rows (tabulate N (λ i. grantIf (b i) (scriptAt scripts i .task) (placeAt s i .section))))
       (one : (i k : ℕ) → i < N → k < N → b i ≡ true → b k ≡ true → i ≡ k) where
-
     rest-moved : (g : Grant) (i : ℕ) → i ≡ indexOf (g .task) scripts → Move (sectionAt (scriptAt scripts i) (placeAt s i .section) .steps) (placeAt s i) (placeAt s′ i) (b i)
         → (b i ≡ true → g .section ≢ placeAt s i .section) → restAt scripts g (placeAt s i) ≡ restAt scripts g (placeAt s′ i)
     rest-moved g i is (stays e n) new = ap (restAt scripts g) (sym e)
@@ -174,11 +173,11 @@ module _ (scripts : List Script) (single : (i : ℕ) → i < length scripts → 
             elim (ℕ-discrete i j) [
               | yes e ↦ subst (λ (n : ℕ). placeAt s′ n .section ≤ k → times (grantOf scripts n k) (s .grants) + bit (isGrant (grantOf scripts n k) g) ≡ bit (isOpenAt k (placeAt s′ n))) (sym e) here v
               | no n ↦
-                let apart : isGrant (grantOf scripts i k) g ≡ false =
-                ⊎-elim (λ (z : isGrant (grantOf scripts i k) g ≡ true). absurd (n (same-script i j l h (ap (λ (q : Grant). q .task) (grant-is (grantOf scripts i k) g z))))) (λ (z : isGrant (grantOf scripts i k) g ≡ false). z)
-                (tested (isGrant (grantOf scripts i k) g)) in
-                let idle : b i ≡ false = ⊎-elim (λ (z : b i ≡ true). absurd (n (one i j l h z y))) (λ (z : b i ≡ false). z) (tested (b i)) in
-                omega (arith, bit-no _ apart, counts-moved i l idle k v (moves i l))
+                  let apart : isGrant (grantOf scripts i k) g ≡ false =
+                  ⊎-elim (λ (z : isGrant (grantOf scripts i k) g ≡ true). absurd (n (same-script i j l h (ap (λ (q : Grant). q .task) (grant-is (grantOf scripts i k) g z))))) (λ (z : isGrant (grantOf scripts i k) g ≡ false). z)
+                  (tested (isGrant (grantOf scripts i k) g)) in
+                  let idle : b i ≡ false = ⊎-elim (λ (z : b i ≡ true). absurd (n (one i j l h z y))) (λ (z : b i ≡ false). z) (tested (b i)) in
+                  omega (arith, bit-no _ apart, counts-moved i l idle k v (moves i l))
             ]
           where
             here : placeAt s′ j .section ≤ k → times (grantOf scripts j k) (s .grants) + bit (isGrant (grantOf scripts j k) g) ≡ bit (isOpenAt k (placeAt s′ j))
@@ -254,9 +253,9 @@ module _ (scripts : List Script) (single : (i : ℕ) → i < length scripts → 
         same g n =
             elim (ℕ-discrete (indexOf (g .task) scripts) i) [
               | yes e ↦
-                let k : g .section ≢ placeAt s i .section = λ z. n (grant-is g mine (both-and (eq-eqb _ _ (sym (index-task (g .task) scripts (omega arith)) ∙ ap (λ (j : ℕ). scriptAt scripts j .task) e)) (eq-eqb _ _ z))) in
-                ap (λ (j : ℕ). restAt scripts g (placeAt s j)) e ∙ if-no _ _ (elsewhere (g .section) (placeAt s i) k)
-                ∙ sym (ap (λ (j : ℕ). restAt scripts g (placeAt after j)) e ∙ ap (restAt scripts g) place-here ∙ if-no _ _ (elsewhere (g .section) (at (placeAt s i .section) (suc (placeAt s i .position))) k))
+                  let k : g .section ≢ placeAt s i .section = λ z. n (grant-is g mine (both-and (eq-eqb _ _ (sym (index-task (g .task) scripts (omega arith)) ∙ ap (λ (j : ℕ). scriptAt scripts j .task) e)) (eq-eqb _ _ z))) in
+                  ap (λ (j : ℕ). restAt scripts g (placeAt s j)) e ∙ if-no _ _ (elsewhere (g .section) (placeAt s i) k)
+                  ∙ sym (ap (λ (j : ℕ). restAt scripts g (placeAt after j)) e ∙ ap (restAt scripts g) place-here ∙ if-no _ _ (elsewhere (g .section) (at (placeAt s i .section) (suc (placeAt s i .position))) k))
               | no d ↦ ap (restAt scripts g) (sym (place-other (indexOf (g .task) scripts) d))
             ]
 
