@@ -8,7 +8,7 @@ use native.Mathlib.Omega.{arith}
 use native.Mathlib.Decide.{ℕ-discrete, decLt}
 use lib.Dec.{leb, ltb, eqb}
 use lib.ListN.{length, getD, set, drop, List·getD-eq-default}
-use lib.Seq.{getD-set-same, getD-set-other}
+use lib.Seq.{getD-set-same, getD-set-other, set-getD}
 use borrow.Author.Tests.{eqb-true, eqb-false, ltb-true, ltb-false, leb-true, leb-false, le-leb, lt-leb}
 use Rattle.laws.specs.Choose.{choose, _or_, _and_}
 use Rattle.laws.proofs.Choose.{choose-cases, and-both, both-and, never, tested, if-yes, if-no, isnt-false, or-first, or-second}
@@ -26,8 +26,8 @@ use Rattle.rules.proofs.Invariants.FromTests.{agrees-facts}
 use Rattle.rules.proofs.History.Used.{Used}
 use Rattle.sections.specs.Scripts.{Step, Section, Script, Memory, Grant, scriptAt, sectionAt, indexOf, stepsOf, doStep, doSteps}
 use Rattle.sections.specs.Scripts.Step.{NoStep}
-use Rattle.sections.specs.Run.{Event, Place, at, State, placeAt, placed, callerOf, said, placeAfter, called, Act, actOf, ask, acted, eventOf}
-use Rattle.sections.specs.Run.Act.{Nothing, Obtains, Steps, Releases}
+use Rattle.sections.specs.Run.{Event, Place, at, State, placeAt, moved, callerOf, said, placeAfter, called, Act, actOf, ask, acted, eventOf}
+use Rattle.sections.specs.Run.Act.{Nothing, Calls, Steps}
 use Rattle.sections.specs.Run.Event.{Turn, Other, NoEvent}
 use Rattle.sections.specs.Refusals.{Input, isAllowed, eventFits}
 use Rattle.sections.proofs.Others.{handedTo}
@@ -104,11 +104,12 @@ module _ (w : Input) (F : Fixed w) (s : State) (S : Sound w s) where
 
       -- the obtain
 
-      obtain-next : (wait : Wait) → waitFits wait ≡ true → p .position ≡ 0 → Next w s (called (w .scripts) s (ask (Obtain (task i) (section .id) wait)))
+      obtain-next : (wait : Wait) → waitFits wait ≡ true → p .position ≡ 0 → Next w s (called (w .scripts) (moved s i p (s .memory)) (ask (Obtain (task i) (section .id) wait)))
       unfolding perform
       obtain-next wait ticks first =
-          called-next w F s S call [] (both-and (le-leb _ _ (F .small i h)) (both-and (le-leb _ _ x-fits) ticks)) (s .places) goes
-          (λ j k l m a b. only j l a ∙ sym (only k m b))
+          subst (λ (ps : List Place). Next w s (called (w .scripts) (record { tables = s .tables; memory = s .memory; places = ps; grants = s .grants }) (ask call))) (sym (set-getD (s .places) i (at 0 0)))
+          (called-next w F s S call [] (both-and (le-leb _ _ (F .small i h)) (both-and (le-leb _ _ x-fits) ticks)) (s .places) goes
+          (λ j k l m a b. only j l a ∙ sym (only k m b)))
         where
           call : Call
           call = Obtain (task i) (section .id) wait
@@ -145,7 +146,7 @@ module _ (w : Input) (F : Fixed w) (s : State) (S : Sound w s) where
 
       -- the release
 
-      release-next : length (section .steps) < p .position → Next w s (called (w .scripts) (placed s i (at (suc (p .section)) 0)) (ask (Release (task i) (section .id))))
+      release-next : length (section .steps) < p .position → Next w s (called (w .scripts) (moved s i (at (suc (p .section)) 0) (s .memory)) (ask (Release (task i) (section .id))))
       unfolding perform
       release-next done =
           called-next w F s S call [] (both-and (le-leb _ _ (F .small i h)) (le-leb _ _ x-fits)) (set (s .places) i (at (suc (p .section)) 0)) goes one
@@ -194,12 +195,12 @@ module _ (w : Input) (F : Fixed w) (s : State) (S : Sound w s) where
 
       -- a step
 
-      step-next : 1 ≤ p .position → p .position ≤ length (section .steps) → Next w s (acted (w .scripts) s i (Steps (getD (section .steps) (pred (p .position)) NoStep)))
+      step-next : 1 ≤ p .position → p .position ≤ length (section .steps) → Next w s (acted (w .scripts) s i (Steps (getD (section .steps) (pred (p .position)) NoStep) (at (p .section) (suc (p .position)))))
       unfolding acted doSteps
       step-next inside last = record { sound = sound; granted = none refl }
         where
-          moved : List Place
-          moved = set (s .places) i (at (p .section) (suc (p .position)))
+          places : List Place
+          places = set (s .places) i (at (p .section) (suc (p .position)))
 
           st : Stand (OfSection w) (s .tables) script c p
           st = S .stands i h
@@ -261,7 +262,7 @@ module _ (w : Input) (F : Fixed w) (s : State) (S : Sound w s) where
                   one-more : pred (task i) ≡ pred (g .task) → g .task ≡ task i
                   one-more z = sym its ∙ numbered w F j l ∙ ap suc (ap pred its ∙ sym z) ∙ sym (numbered w F i h)
 
-          sound : Sound w (acted (w .scripts) s i (Steps step))
+          sound : Sound w (acted (w .scripts) s i (Steps step (at (p .section) (suc (p .position)))))
           sound =
               record {
                 agrees′ = S .agrees′;
@@ -269,14 +270,14 @@ module _ (w : Input) (F : Fixed w) (s : State) (S : Sound w s) where
                 guards = S .guards;
                 stands = λ j l.
                     elim (ℕ-discrete j i) [
-                      | yes e ↦ subst (λ (k : ℕ). Stand (OfSection w) (s .tables) (scriptAt (w .scripts) k) (pred (task k)) (getD moved k (at 0 0))) (sym e)
+                      | yes e ↦ subst (λ (k : ℕ). Stand (OfSection w) (s .tables) (scriptAt (w .scripts) k) (pred (task k)) (getD places k (at 0 0))) (sym e)
                           (subst (Stand (OfSection w) (s .tables) script c) (sym (getD-set-same (s .places) i _ (at 0 0) (omega (arith, S .serial .many)))) further)
                       | no n ↦ subst (Stand (OfSection w) (s .tables) (scriptAt (w .scripts) j) (pred (task j))) (sym (getD-set-other (s .places) i j _ (at 0 0) n)) (S .stands j l)
                     ];
                 serial = step-taken (w .scripts) (F .single) (w .memory) s (S .serial) i h inside last commutes;
               }
 
-    turn-next : Next w s (acted (w .scripts) s i (actOf (s .tables) script p))
+    turn-next : Next w s (acted (w .scripts) s i (actOf (w .scripts) s i))
     unfolding actOf acted
     turn-next =
         choose-cases Q (waits (taskOf (s .tables) (task i)) or leb (length (script .sections)) (p .section)) _ _ (λ e. record { sound = S; granted = none refl })

@@ -12,7 +12,7 @@ use lib.Seq.{getD-set-same, getD-set-other}
 use borrow.Author.Tests.{eqb-true, eq-eqb, ne-eqb}
 use Rattle.laws.specs.Choose.{choose}
 use Rattle.laws.specs.Rows.{tabulate, rows}
-use Rattle.laws.proofs.Choose.{choose-cases, and-both, tested, if-yes, if-no}
+use Rattle.laws.proofs.Choose.{choose-cases, if-yes, if-no}
 use Rattle.laws.proofs.Fit.{length-tabulate, getD-tabulate, tabulate-same}
 use Rattle.rules.specs.declared.Call.{Call}
 use Rattle.rules.specs.Numbers.{maxNumber}
@@ -25,14 +25,14 @@ use Rattle.rules.proofs.Invariants.FromTests.{agrees-facts}
 use Rattle.rules.proofs.Invariants.Kept.{kept}
 use Rattle.rules.proofs.Invariants.Links.{SameWait}
 use Rattle.sections.specs.Scripts.{Step, Script, Memory, Grant, scriptAt, sectionAt, indexOf}
-use Rattle.sections.specs.Run.{Place, at, State, placeAt, callerOf, obtainsBy, said, placeAfter, grantIf, called}
+use Rattle.sections.specs.Run.{Place, at, State, placeAt, callerOf, obtainerOf, said, placeAfter, grantIf, called}
 use Rattle.sections.specs.Refusals.{Input}
 use Rattle.sections.proofs.Others.{Woken, Observed, handedTo}
 use Rattle.sections.proofs.Observing.{observed}
-use Rattle.sections.proofs.Standing.{Guard, idAt, Stand, performs, back, guard-kept, place-said, place-granted, place-skipped, unlike, said-same, said-woken, stand-other}
+use Rattle.sections.proofs.Standing.{Guard, idAt, Stand, performs, back, guard-kept, place-said, place-granted, place-skipped, unlike, not-obtainer, said-same, said-woken, stand-other}
 use Rattle.sections.proofs.Footprints.{AllSteps}
 use Rattle.sections.proofs.Indices.{some-or-none, rows-none, rows-one}
-use Rattle.sections.proofs.Serial.{Serial, Move, same-script, moved}
+use Rattle.sections.proofs.Serial.{Serial, Move, all-moved}
 use Rattle.sections.proofs.Serial.Move.{stays, passes, enters}
 
 -- an identifier of some section
@@ -170,9 +170,8 @@ module _ (w : Input) (F : Fixed w) where
           z .ready ∙ sym (if-no _ _ (ne-eqb (answer i) 100 (λ e. unlike (nthTask (o .tables) (c i)) (z .ready) (sym (woken-said z) ∙ e)))))
           (seen .task)
 
-      pub silent-seen : obtainsBy (task i) call ≡ false
-      silent-seen =
-          ⊎-elim (λ (e : obtainsBy (task i) call ≡ true). absurd (other (sym (eqb-true _ _ (and-both _ _ e .1))))) (λ (e : obtainsBy (task i) call ≡ false). e) (tested (obtainsBy (task i) call))
+      pub silent-seen : eqb (obtainerOf call) (task i) ≡ false
+      silent-seen = not-obtainer call (task i) (F .tasks i h) other
 
     -- ---- all scripts
 
@@ -203,7 +202,7 @@ module _ (w : Input) (F : Fixed w) where
                 omega arith;
             guards = λ y g. guard-kept t (S .agrees′) call priorities (some (g .low)) y (S .guards y g);
             stands = λ i h. subst (Stand (OfSection w) (o .tables) (script i) (c i)) (sym (place i h)) (goes i h .stand);
-            serial = moved (w .scripts) (F .single) (w .memory) s (S .serial) after refl (length-tabulate N _) (λ i. eqb (answer i) 0)
+            serial = all-moved (w .scripts) (F .single) (w .memory) s (S .serial) after refl (length-tabulate N _) (λ i. eqb (answer i) 0)
                 (λ i h. subst (λ (p : Place). Move (sectionAt (script i) (placeAt s i .section) .steps) (placeAt s i) p (eqb (answer i) 0)) (sym (place i h)) (goes i h .move))
                 (ap (λ (gs : List (List Grant)). s .grants ++ rows gs) (tabulate-same N _ _ grants))
                 (λ i k h l a b. sole i k h l (eqb-true _ _ a) (eqb-true _ _ b));

@@ -12,7 +12,7 @@ use lib.Seq.{getD-set-same, getD-set-other}
 use borrow.Author.Tests.{eqb-true, eqb-false, eq-eqb, ne-eqb, le-leb, lt-leb}
 use Rattle.laws.specs.Choose.{choose, _and_, _or_, bit}
 use Rattle.laws.specs.Rows.{tabulate, rows}
-use Rattle.laws.proofs.Choose.{choose-cases, and-both, both-and, never, tested, if-yes, if-no, or-second}
+use Rattle.laws.proofs.Choose.{choose-cases, choose-same, and-both, both-and, never, tested, if-yes, if-no, or-second}
 use Rattle.laws.proofs.Fit.{getD-tabulate, tabulate-same}
 use Rattle.rules.specs.declared.Call.{Call}
 use Rattle.rules.specs.declared.Task.{Task}
@@ -20,10 +20,9 @@ use Rattle.rules.specs.Machine.{Tables, noTask, taskOf, waits}
 use Rattle.rules.specs.Calls.{Outcome, perform}
 use Rattle.rules.proofs.Invariants.Lists.{bit-yes, bit-no}
 use Rattle.sections.specs.Scripts.{Script, Grant, scriptAt}
-use Rattle.sections.specs.Run.{Place, at, State, placeAt, obtainsBy, said, placeAfter, grantIf, called}
+use Rattle.sections.specs.Run.{Place, at, State, placeAt, obtainerOf, said, placeAfter, grantIf, called}
 use Rattle.sections.specs.Refusals.{Input}
-use Rattle.sections.specs.History.{Made, Shown, answersIn, obtained, answerShown}
-use Rattle.sections.specs.History.Made.{None, One}
+use Rattle.sections.specs.History.{Shown, answersIn, shownNone, shownCall, answerShown}
 use Rattle.sections.proofs.Indices.{rows-none}
 use Rattle.sections.proofs.Standing.{place-said, place-granted, place-skipped}
 
@@ -86,34 +85,32 @@ module _ (p : Place) (answer obtains : ℕ) (waiting obtaining waiting′ : Bool
 
 -- ---- one event
 
-abbrev pub shownAt : State → Made → Shown
-shownAt u made = record { made = made; answers = answersIn (u .tables) }
-
-abbrev pub countedOn : (ℕ → ℕ) → Made → ℕ → ℕ
-countedOn obtains made q = obtains q + bit (obtained q made)
+abbrev pub countedOn : (ℕ → ℕ) → ℕ → ℕ → ℕ
+countedOn obtains obtainer q = obtains q + bit (eqb obtainer q)
 
 -- an event's grants are those that its call and the tasks' answers show
-pub record Reads (w : Input) (obtains : ℕ → ℕ) (s u : State) (made : Made) : Type 0 where
+pub record Reads (w : Input) (obtains : ℕ → ℕ) (s u : State) (show : List ℕ → Shown) : Type 0 where
   pub grants : u .grants ≡ s .grants ++ rows (tabulate (length (w .scripts)) (λ i.
-      grantIf (eqb (answerShown (answersIn (s .tables)) (shownAt u made) (scriptAt (w .scripts) i .task)) 0) (scriptAt (w .scripts) i .task) (pred (countedOn obtains made (scriptAt (w .scripts) i .task)))))
-  pub counts : Counted w (countedOn obtains made) u
+      grantIf (eqb (answerShown (answersIn (s .tables)) (show (answersIn (u .tables))) (scriptAt (w .scripts) i .task)) 0) (scriptAt (w .scripts) i .task)
+      (pred (countedOn obtains (show (answersIn (u .tables)) .obtainer) (scriptAt (w .scripts) i .task)))))
+  pub counts : Counted w (countedOn obtains (show (answersIn (u .tables)) .obtainer)) u
 
 answer-in : (t : Tables) (q : ℕ) → getD (answersIn t) (pred q) 0 ≡ taskOf t q .answer
 answer-in t q = List·getD-map (λ (v : Task). v .answer) (t .tasks) (pred q) noTask
 
 -- what a call says is what it shows
-answer-shown : (t : Tables) (call : Call) (o : Outcome) (q : ℕ) → answerShown (answersIn t) (record { made = One call (o .answer .status); answers = answersIn (o .tables) }) q ≡ said t call o q
+answer-shown : (t : Tables) (call : Call) (o : Outcome) (q : ℕ) → answerShown (answersIn t) (record { obtainer = obtainerOf call; status = o .answer .status; answers = answersIn (o .tables) }) q ≡ said t call o q
 unfolding said
 answer-shown t call o q =
-    ap₂ (λ (a b : ℕ). choose (eqb a 100) b (choose (obtainsBy q call) (o .answer .status) 100)) (answer-in t q) (answer-in (o .tables) q)
+    ap₂ (λ (a b : ℕ). choose (eqb a 100) b (choose (eqb (obtainerOf call) q) (o .answer .status) 100)) (answer-in t q) (answer-in (o .tables) q)
 
 -- an answer is to a wait or to an obtain
-spoken : (t : Tables) (call : Call) (o : Outcome) (q : ℕ) → said t call o q ≢ 100 → (waits (taskOf t q) or obtainsBy q call) ≡ true
+spoken : (t : Tables) (call : Call) (o : Outcome) (q : ℕ) → said t call o q ≢ 100 → (waits (taskOf t q) or eqb (obtainerOf call) q) ≡ true
 unfolding said
 spoken t call o q n =
     ⊎-elim (λ (e : waits (taskOf t q) ≡ true). if-yes _ _ e)
     (λ (e : waits (taskOf t q) ≡ false).
-    if-no _ _ e ∙ ⊎-elim (λ (y : obtainsBy q call ≡ true). y) (λ (z : obtainsBy q call ≡ false). absurd (n (if-no _ _ e ∙ if-no _ _ z))) (tested (obtainsBy q call)))
+    if-no _ _ e ∙ ⊎-elim (λ (y : eqb (obtainerOf call) q ≡ true). y) (λ (z : eqb (obtainerOf call) q ≡ false). absurd (n (if-no _ _ e ∙ if-no _ _ z))) (tested (eqb (obtainerOf call) q)))
     (tested (waits (taskOf t q)))
 
 module _ (w : Input) (s : State) (obtains : ℕ → ℕ) (C : Counted w obtains s) where
@@ -130,17 +127,14 @@ module _ (w : Input) (s : State) (obtains : ℕ → ℕ) (C : Counted w obtains 
     abbrev answer : ℕ → ℕ
     answer i = said (s .tables) call o (task i)
 
-    abbrev made : Made
-    made = One call (o .answer .status)
-
     -- one script, which stood at p when the call was made
     pub record Tells (i : ℕ) (p : Place) : Type 0 where
-      pub granted : answer i ≡ 0 → p .section ≡ pred (countedOn obtains made (task i))
-      pub counts : countedOn obtains made (task i) ≡ placeAfter (answer i) p .section + bit (leb 1 (placeAfter (answer i) p .position) or waits (taskOf (o .tables) (task i)))
+      pub granted : answer i ≡ 0 → p .section ≡ pred (countedOn obtains (obtainerOf call) (task i))
+      pub counts : countedOn obtains (obtainerOf call) (task i) ≡ placeAfter (answer i) p .section + bit (leb 1 (placeAfter (answer i) p .position) or waits (taskOf (o .tables) (task i)))
 
     pub tells : (i : ℕ) → i < N
-        → waits (taskOf (o .tables) (task i)) ≡ choose (eqb (answer i) 100) (waits (taskOf (s .tables) (task i)) or obtainsBy (task i) call) false
-        → (obtainsBy (task i) call ≡ true → (waits (taskOf (s .tables) (task i)) ≡ false) × (placeAt s i .position ≡ 0)) → (answer i ≢ 100 → placeAt s i .position ≡ 0)
+        → waits (taskOf (o .tables) (task i)) ≡ choose (eqb (answer i) 100) (waits (taskOf (s .tables) (task i)) or eqb (obtainerOf call) (task i)) false
+        → (eqb (obtainerOf call) (task i) ≡ true → (waits (taskOf (s .tables) (task i)) ≡ false) × (placeAt s i .position ≡ 0)) → (answer i ≢ 100 → placeAt s i .position ≡ 0)
         → Tells i (placeAt s i)
     tells i h after fresh first =
         record {
@@ -153,37 +147,39 @@ module _ (w : Input) (s : State) (obtains : ℕ → ℕ) (C : Counted w obtains 
       abbrev u : State
       u = called (w .scripts) (record { tables = s .tables; memory = s .memory; places = ps; grants = s .grants }) (record { call = call; priorities = priorities })
 
-      pub called-reads : Reads w obtains s u made
+      pub called-reads : Reads w obtains s u (shownCall (s .tables) (record { call = call; priorities = priorities }))
       unfolding called
       called-reads =
           record {
             grants = ap (λ (gs : List (List Grant)). s .grants ++ rows gs) (tabulate-same N _ _ same);
-            counts = record { each = λ i h. subst (λ (p : Place). countedOn obtains made (task i) ≡ p .section + bit (leb 1 (p .position) or waits (taskOf (o .tables) (task i)))) (sym (place i h)) (each i h .counts) };
+            counts = record { each = λ i h. subst (λ (p : Place). countedOn obtains (obtainerOf call) (task i) ≡ p .section + bit (leb 1 (p .position) or waits (taskOf (o .tables) (task i)))) (sym (place i h)) (each i h .counts) };
           }
         where
           place : (i : ℕ) → i < N → placeAt u i ≡ placeAfter (answer i) (getD ps i (at 0 0))
           place i h = getD-tabulate N (λ i. placeAfter (answer i) (getD ps i (at 0 0))) i (at 0 0) h
 
           same : (i : ℕ) → i < N → grantIf (eqb (answer i) 0) (task i) (getD ps i (at 0 0) .section)
-              ≡ grantIf (eqb (answerShown (answersIn (s .tables)) (shownAt u made) (task i)) 0) (task i) (pred (countedOn obtains made (task i)))
+              ≡ grantIf (eqb (answerShown (answersIn (s .tables)) (shownCall (s .tables) (record { call = call; priorities = priorities }) (answersIn (u .tables))) (task i)) 0) (task i) (pred (countedOn obtains (obtainerOf call) (task i)))
           same i h =
-              choose-cases (λ (gs : List Grant). gs ≡ grantIf (eqb (answer i) 0) (task i) (pred (countedOn obtains made (task i)))) (eqb (answer i) 0) _ []
+              choose-cases (λ (gs : List Grant). gs ≡ grantIf (eqb (answer i) 0) (task i) (pred (countedOn obtains (obtainerOf call) (task i)))) (eqb (answer i) 0) _ []
               (λ e. ap (λ (k : ℕ). record { task = task i; section = k } ∷ []) (each i h .granted (eqb-true _ _ e)) ∙ sym (if-yes _ _ e))
               (λ e. sym (if-no _ _ e))
-              ∙ ap (λ (n : ℕ). grantIf (eqb n 0) (task i) (pred (countedOn obtains made (task i)))) (sym (answer-shown (s .tables) call o (task i)))
+              ∙ ap (λ (n : ℕ). grantIf (eqb n 0) (task i) (pred (countedOn obtains (obtainerOf call) (task i)))) (sym (answer-shown (s .tables) call o (task i)))
 
   -- no call, and tables as they were
-  pub quiet-reads : (u : State) → u .tables ≡ s .tables → u .grants ≡ s .grants → ((i : ℕ) → i < N → (placeAt u i .section ≡ placeAt s i .section) × (leb 1 (placeAt u i .position) ≡ leb 1 (placeAt s i .position)))
-      → Reads w obtains s u None
-  unfolding choose
-  quiet-reads u tables grants places =
+  pub quiet-reads : ((i : ℕ) → i < N → 1 ≤ task i) → (u : State) → u .tables ≡ s .tables → u .grants ≡ s .grants
+      → ((i : ℕ) → i < N → (placeAt u i .section ≡ placeAt s i .section) × (leb 1 (placeAt u i .position) ≡ leb 1 (placeAt s i .position))) → Reads w obtains s u shownNone
+  quiet-reads first u tables grants places =
       record {
-        grants = grants ∙ sym (ap (λ (gs : List Grant). s .grants ++ gs) (rows-none N (λ i. eqb (answerShown (answersIn (s .tables)) (shownAt u None) (task i)) 0) (λ i. record { task = task i; section = pred (countedOn obtains None (task i)) }) silent) ∙ append-nil (s .grants));
-        counts = record { each = λ i h. omega (arith, C .each i h, places i h .0, ap₂ (λ (b : Bool) (t : Tables). bit (b or waits (taskOf t (task i)))) (places i h .1) tables) };
+        grants = grants ∙ sym (ap (λ (gs : List Grant). s .grants ++ gs) (rows-none N (λ i. eqb (answerShown (answersIn (s .tables)) (shownNone (answersIn (u .tables))) (task i)) 0) (λ i. record { task = task i; section = pred (countedOn obtains 0 (task i)) }) silent) ∙ append-nil (s .grants));
+        counts = record {
+          each = λ i h.
+              omega (arith, C .each i h, places i h .0, bit-no (eqb 0 (task i)) (ne-eqb 0 (task i) (λ (e : 0 ≡ task i). omega (arith, first i h))), ap₂ (λ (b : Bool) (t : Tables). bit (b or waits (taskOf t (task i)))) (places i h .1) tables);
+        };
       }
     where
-      silent : (i : ℕ) → i < N → eqb (answerShown (answersIn (s .tables)) (shownAt u None) (task i)) 0 ≡ false
+      silent : (i : ℕ) → i < N → eqb (answerShown (answersIn (s .tables)) (shownNone (answersIn (u .tables))) (task i)) 0 ≡ false
       silent i h =
-          ap (λ (t : Tables). eqb (answerShown (answersIn (s .tables)) (record { made = None; answers = answersIn t }) (task i)) 0) tables
-          ∙ choose-cases (λ (n : ℕ). eqb n 0 ≡ false) (eqb (getD (answersIn (s .tables)) (pred (task i)) 0) 100) _ 100
-          (λ e. ap (λ (n : ℕ). eqb n 0) (eqb-true (getD (answersIn (s .tables)) (pred (task i)) 0) 100 e)) (λ e. refl)
+          ap (λ (t : Tables). eqb (answerShown (answersIn (s .tables)) (shownNone (answersIn t)) (task i)) 0) tables
+          ∙ choose-cases (λ (n : ℕ). eqb n 0 ≡ false) (eqb (getD (answersIn (s .tables)) (pred (task i)) 0) 100) _ _
+          (λ e. ap (λ (n : ℕ). eqb n 0) (eqb-true (getD (answersIn (s .tables)) (pred (task i)) 0) 100 e)) (λ e. ap (λ (n : ℕ). eqb n 0) (choose-same (eqb 0 (task i)) 100))

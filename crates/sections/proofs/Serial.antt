@@ -16,7 +16,7 @@ use Rattle.laws.proofs.Choose.{choose-cases, choose-same, and-both, both-and, t
 use Rattle.rules.proofs.Invariants.Lists.{bit-yes, bit-no}
 use Rattle.sections.specs.Scripts.{Step, Script, Memory, Grant, scriptAt, sectionAt, indexOf, stepsOf, doStep, doSteps, plain}
 use Rattle.sections.specs.Scripts.Step.{NoStep}
-use Rattle.sections.specs.Run.{Place, at, State, placeAt, grantIf, stepped}
+use Rattle.sections.specs.Run.{Place, at, State, placeAt, moved, grantIf}
 use Rattle.sections.proofs.Finishing.{isGrant, grant-is, is-grant, times, times-append, finish, plain-finish, finish-append, finish-same, finish-step}
 use Rattle.sections.proofs.Indices.{index-task, some-or-none, rows-none, rows-one}
 
@@ -192,8 +192,8 @@ module _ (scripts : List Script) (single : (i : ℕ) → i < length scripts → 
                     if-yes _ _ (eq-eqb (g .task) (g .task) refl)
                     ∙ sym (ap (isOpenAt k) (entered .0) ∙ choose-cases (λ (z : Bool). z ≡ eqb k (placeAt s j .section)) (eqb k (placeAt s j .section)) true false (λ e. sym e) (λ e. sym e))
 
-    pub moved : Serial scripts m s′
-    moved = ⊎-elim (λ (k : (k : ℕ) × (k < N) × (b k ≡ true)). one-entered (k .0) (k .1) (k .2)) (λ (f : (i : ℕ) → i < N → b i ≡ false). none-entered f) (some-or-none N b)
+    pub all-moved : Serial scripts m s′
+    all-moved = ⊎-elim (λ (k : (k : ℕ) × (k < N) × (b k ≡ true)). one-entered (k .0) (k .1) (k .2)) (λ (f : (i : ℕ) → i < N → b i ≡ false). none-entered f) (some-or-none N b)
 
   -- ---- an open section takes a step
 
@@ -205,7 +205,7 @@ module _ (scripts : List Script) (single : (i : ℕ) → i < length scripts → 
     step = getD (sectionAt (scriptAt scripts i) (placeAt s i .section) .steps) (pred (placeAt s i .position)) NoStep
 
     abbrev after : State
-    after = stepped s i (doStep (scriptAt scripts i .task) step (s .memory))
+    after = moved s i (at (placeAt s i .section) (suc (placeAt s i .position))) (doStep (scriptAt scripts i .task) step (s .memory))
 
     pub step-taken : ((g : Grant) → g ≢ mine → (k : Memory) → doSteps (g .task) (restOf scripts s g) (doStep (mine .task) step k) ≡ doStep (mine .task) step (doSteps (g .task) (restOf scripts s g) k))
         → Serial scripts m after

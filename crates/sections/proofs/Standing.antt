@@ -31,7 +31,7 @@ use Rattle.rules.proofs.History.CallsForward.{step-forward}
 use Rattle.rules.proofs.History.Used.{Used, Ended, Named, names-named, named-names, ended-unnamed, used-stays, ended-stays}
 use Rattle.rules.proofs.History.Done.{id-parts}
 use Rattle.sections.specs.Scripts.{Script, sectionAt}
-use Rattle.sections.specs.Run.{Place, at, callerOf, obtainsBy, said, placeAfter}
+use Rattle.sections.specs.Run.{Place, at, callerOf, obtainerOf, said, placeAfter}
 use Rattle.sections.proofs.Others.{SameHold, Watched, Got, Woken, Handed, Observed, handedTo}
 use Rattle.sections.proofs.Observing.{observed}
 use Rattle.sections.proofs.Callers.{Holds, Obtained, obtained, Released, released}
@@ -73,6 +73,11 @@ place-skipped a p n m = if-no _ _ (ne-eqb a 0 n) ∙ if-no _ _ (ne-eqb a 100 m)
 
 pub unlike : (v : Task) → waits v ≡ false → v .answer ≢ 100
 unlike v e z = never (eq-eqb (v .answer) 100 z) e
+
+-- who does not make a call does not obtain by it
+pub not-obtainer : (call : Call) (q : ℕ) → 1 ≤ q → q ≢ callerOf call → eqb (obtainerOf call) q ≡ false
+not-obtainer call q h other =
+    ne-eqb _ _ (choose-cases (λ (n : ℕ). n ≡ q → ⊥) (eqb (kindOf call) 5) (callerOf call) 0 (λ k e. other (sym e)) (λ k e. omega arith))
 
 -- the place of a slot that an identifier names
 pub slot-of : (t : Tables) (f : Facts t) (y j : ℕ) → isLive (nthSlot t j) ≡ true → y ≡ idOf (suc j) (nthSlot t j) → (y % 65536 ≡ suc j) × (y / 65536 ≡ nthSlot t j .generation)
@@ -148,10 +153,6 @@ module _ (G : ℕ → Type 0) (t : Tables) (f : Facts t) (guards : (y : ℕ) →
   module _ (call : Call) (o : Outcome) (other : suc c ≢ callerOf call) (seen : Observed t (o .tables) c (handedTo t call)) (back : (y : ℕ) → G y → names (o .tables) y ≡ true → names t y ≡ true) where
     abbrev t′ : Tables
     t′ = o .tables
-
-    not-obtaining : obtainsBy (suc c) call ≡ false
-    not-obtaining =
-        ⊎-elim (λ (e : obtainsBy (suc c) call ≡ true). absurd (other (sym (eqb-true _ _ (and-both _ _ e .1))))) (λ (e : obtainsBy (suc c) call ≡ false). e) (tested (obtainsBy (suc c) call))
 
     -- the slot of a named identifier, as the task sees it
     watched : (y : ℕ) → Watched (suc c) (Handed t t′ c (pred (y % 65536))) (slotOf t (y % 65536)) (slotOf t′ (y % 65536))
@@ -249,7 +250,7 @@ module _ (G : ℕ → Type 0) (t : Tables) (f : Facts t) (guards : (y : ℕ) →
       pub said-same : SameWait (nthTask t c) (nthTask t′ c) → said t call o (suc c) ≡ 100
       unfolding said
       said-same same =
-          choose-cases (λ (n : ℕ). n ≡ 100) (waits (nthTask t c)) _ _ (λ w. same .answer ∙ eqb-true _ _ w) (λ w. if-no _ _ not-obtaining)
+          choose-cases (λ (n : ℕ). n ≡ 100) (waits (nthTask t c)) _ _ (λ w. same .answer ∙ eqb-true _ _ w) (λ w. if-no _ _ (not-obtainer call (suc c) (omega arith) other))
 
       pub said-woken : Woken t t′ c (handedTo t call) → said t call o (suc c) ≡ nthTask t′ c .answer
       unfolding said

@@ -10,7 +10,7 @@ use lib.ListN.{length}
 use lib.Dec.{eqb}
 use borrow.Author.Tests.{eq-eqb, ne-eqb}
 use Rattle.laws.specs.Choose.{choose}
-use Rattle.laws.proofs.Choose.{both-and, never, if-yes, if-no}
+use Rattle.laws.proofs.Choose.{never, if-yes, if-no}
 use Rattle.rules.specs.declared.Call.the-variants.{Obtain, Release}
 use Rattle.rules.specs.declared.Task.{Task}
 use Rattle.rules.specs.declared.Wait.{Wait}
@@ -28,12 +28,12 @@ use Rattle.sections.proofs.Standing.{Guard, Owns, idAt, Stand, place-sa
 
 -- the answer to its own obtain, and nothing at its release
 pub said-own : (t : Tables) (c x : ℕ) (wait : Wait) (o : Outcome) → waits (nthTask t c) ≡ false → said t (Obtain (suc c) x wait) o (suc c) ≡ o .answer .status
-unfolding said kindOf
-said-own t c x wait o ready = if-no _ _ ready ∙ if-yes _ _ (both-and refl (eq-eqb (suc c) (suc c) refl))
+unfolding said kindOf choose
+said-own t c x wait o ready = if-no _ _ ready ∙ if-yes _ _ (eq-eqb (suc c) (suc c) refl)
 
 pub said-released : (t : Tables) (c q x : ℕ) (o : Outcome) → waits (nthTask t c) ≡ false → said t (Release q x) o (suc c) ≡ 100
 unfolding said kindOf choose
-said-released t c q x o ready = if-no _ _ ready
+said-released t c q x o ready = if-no _ _ ready ∙ if-no _ _ (ne-eqb 0 (suc c) (omega arith))
 
 -- it waits exactly where its obtain answers 100
 pub own-waits : (t : Tables) (c x : ℕ) (o : Outcome) → waits (nthTask t c) ≡ false → Obtained t c x o → waits (nthTask (o .tables) c) ≡ eqb (o .answer .status) 100

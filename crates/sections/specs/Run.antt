@@ -42,9 +42,9 @@ pub record State : Type 0 where
 abbrev pub placeAt : State → ℕ → Place
 placeAt s i = getD (s .places) i (at 0 0)
 
--- script i is at another place
-abbrev pub placed : State → ℕ → Place → State
-placed s i p = record { tables = s .tables; memory = s .memory; places = set (s .places) i p; grants = s .grants }
+-- script i has done something, and is at another place
+abbrev pub moved : State → ℕ → Place → Memory → State
+moved s i p memory = record { tables = s .tables; memory = memory; places = set (s .places) i p; grants = s .grants }
 
 -- the caller, or 0: start, ident and tick have none
 abbrev pub callerOf : Call → ℕ
@@ -57,13 +57,13 @@ callerOf (Release caller id) = caller
 callerOf (Flush caller id) = caller
 callerOf Tick = 0
 
--- the call is an obtain by that task
-abbrev pub obtainsBy : ℕ → Call → Bool
-obtainsBy q call = eqb (kindOf call) 5 and eqb (callerOf call) q
+-- the task whose obtain a call is, or 0
+abbrev pub obtainerOf : Call → ℕ
+obtainerOf call = choose (eqb (kindOf call) 5) (callerOf call) 0
 
 -- what a call says to a task's obtain: the ending of its wait, whoever made the call, or the answer to the obtain itself; 100 where it says nothing
 unfoldable pub said : Tables → Call → Outcome → ℕ → ℕ
-said t call o q = choose (waits (taskOf t q)) (taskOf (o .tables) q .answer) (choose (obtainsBy q call) (o .answer .status) waiting)
+said t call o q = choose (waits (taskOf t q)) (taskOf (o .tables) q .answer) (choose (eqb (obtainerOf call) q) (o .answer .status) waiting)
 
 -- with 0 the section is granted, and its first step or its release comes next; with any other answer but 100 it is skipped at once
 abbrev pub placeAfter : ℕ → Place → Place
@@ -83,40 +83,33 @@ called scripts s r =
       grants = s .grants ++ rows (tabulate (length scripts) (λ i. grantIf (eqb (answer i) successful) (scriptAt scripts i .task) (placeAt s i .section)));
     }
 
--- a turn does one thing
+-- a turn does one thing: nothing, a call, or a step; then its script stands at that place
 pub data Act : Type 0 where
   Nothing : Act
-  Obtains : Call → Act
-  Steps : Step → Act
-  Releases : Call → Act
+  Calls : Call → Place → Act
+  Steps : Step → Place → Act
 
 -- a waiting or finished task's turn changes nothing; else the obtain, one step, or the release
-unfoldable pub actOf : Tables → Script → Place → Act
-actOf t script p =
+unfoldable pub actOf : List Script → State → ℕ → Act
+actOf scripts s i =
+    let script = scriptAt scripts i in
+    let p = placeAt s i in
     let section = sectionAt script (p .section) in
-    choose (waits (taskOf t (script .task)) or leb (length (script .sections)) (p .section)) Nothing
-    (choose (eqb (p .position) 0) (Obtains (Obtain (script .task) (section .id) (waitOf (section .options) (section .timeout))))
-    (choose (leb (p .position) (length (section .steps))) (Steps (getD (section .steps) (pred (p .position)) NoStep))
-    (Releases (Release (script .task) (section .id)))))
-
-abbrev pub actAt : List Script → State → ℕ → Act
-actAt scripts s i = actOf (s .tables) (scriptAt scripts i) (placeAt s i)
+    choose (waits (taskOf (s .tables) (script .task)) or leb (length (script .sections)) (p .section)) Nothing
+    (choose (eqb (p .position) 0) (Calls (Obtain (script .task) (section .id) (waitOf (section .options) (section .timeout))) p)
+    (choose (leb (p .position) (length (section .steps))) (Steps (getD (section .steps) (pred (p .position)) NoStep) (at (p .section) (suc (p .position))))
+    (Calls (Release (script .task) (section .id)) (at (suc (p .section)) 0))))
 
 abbrev pub ask : Call → Request
 ask call = record { call = call; priorities = [] }
 
-abbrev pub stepped : State → ℕ → Memory → State
-stepped s i memory =
-    record { tables = s .tables; memory = memory; places = set (s .places) i (at (placeAt s i .section) (suc (placeAt s i .position))); grants = s .grants }
-
 unfoldable pub acted : List Script → State → ℕ → Act → State
 acted scripts s i Nothing = s
-acted scripts s i (Obtains call) = called scripts s (ask call)
-acted scripts s i (Steps step) = stepped s i (doStep (scriptAt scripts i .task) step (s .memory))
-acted scripts s i (Releases call) = called scripts (placed s i (at (suc (placeAt s i .section)) 0)) (ask call)
+acted scripts s i (Calls call p) = called scripts (moved s i p (s .memory)) (ask call)
+acted scripts s i (Steps step p) = moved s i p (doStep (scriptAt scripts i .task) step (s .memory))
 
 unfoldable pub eventOf : List Script → State → Event → State
-eventOf scripts s (Turn q) = let i = indexOf q scripts in acted scripts s i (actAt scripts s i)
+eventOf scripts s (Turn q) = let i = indexOf q scripts in acted scripts s i (actOf scripts s i)
 eventOf scripts s (Other r) = called scripts s r
 eventOf scripts s NoEvent = s
 
