@@ -7,23 +7,24 @@ use Prim.Native.Nat.{ℕ, _+_, _%_, _≤_, _<_}
 use native.Mathlib.Omega.{arith}
 use native.Mathlib.Decide.{ℕ-discrete, decLt}
 use lib.Dec.{leb, eqb}
-use lib.ListN.{length, getD, List·getD-eq-default}
+use lib.ListN.{length, getD, length-append, List·getD-append, List·getD-eq-default}
+use lib.Seq.{getD-append-seam}
 use borrow.Author.Tests.{eqb-true, ne-eqb, leb-false}
 use Rattle.laws.specs.Choose.{choose, _or_, bit}
 use Rattle.laws.proofs.Choose.{choose-same, if-yes, if-no}
 use Rattle.laws.proofs.Fit.{getD-same}
-use Rattle.rules.specs.Machine.{Tables, taskOf, slotOf, waits, next}
+use Rattle.rules.specs.Machine.{Tables, taskOf, slotOf, waits, names, next}
 use Rattle.rules.specs.Agreement.{Agrees}
-use Rattle.sections.specs.Scripts.{Step, Script, Memory, Grant, scriptAt, indexOf, plain}
+use Rattle.sections.specs.Scripts.{Script, Grant, scriptAt, sectionAt, indexOf, plain}
 use Rattle.sections.specs.Run.{Event, Place, at, State, placeAt, eventOf, runFrom, openOf}
+use Rattle.sections.specs.Run.Event.{NoEvent}
 use Rattle.sections.specs.Refusals.{Input, isAllowed, refusal, atFirst, Ran, run, eventFits, inputFits}
 use Rattle.sections.specs.History.{answersIn, history, grantsShown}
 use Rattle.rules.proofs.Invariants.Lists.{bit-no}
-use Rattle.sections.proofs.Standing.{Owns, idAt}
-use Rattle.sections.proofs.Finishing.{finish, finish-none}
+use Rattle.sections.proofs.Finishing.{finish-none}
 use Rattle.sections.proofs.Indices.{rows-empty}
-use Rattle.sections.proofs.Serial.{closed, isOpenAt, restOf, same-script}
-use Rattle.sections.proofs.Kept.{Fixed, Sound, Next, AtMostOne, numbered}
+use Rattle.sections.proofs.Serial.{closed, restOf, same-script}
+use Rattle.sections.proofs.Kept.{Sound, numbered}
 use Rattle.sections.proofs.Events.{event-next}
 use Rattle.sections.proofs.Histories.{run-reads}
 use Rattle.sections.proofs.Accepted.{Accepted, accepted, run-sound}
@@ -84,52 +85,72 @@ unfolding runFrom
 run-halves scripts s [] b = refl
 run-halves scripts s (e ∷ es) b = run-halves scripts (eventOf scripts s e) es b
 
-module _ (t : Tables) (w : Input) (events : List Event) (fits : inputFits w events ≡ true) where
-  -- agreement is kept
-  pub run-agrees : Agrees t → Agrees (run t w events .state .tables)
-  run-agrees a =
-      elim (ℕ-discrete (refusal t w events) 0) [
-        | yes e ↦ subst (λ (s : State). Agrees (s .tables)) (sym (ran t w events e)) (sound e .agrees′)
-        | no n ↦ subst (λ (s : State). Agrees (s .tables)) (sym (refused-keeps t w events n)) a
-      ]
+-- ---- whatever stands after the first part of a list that is not refused
+
+module _ (t : Tables) (w : Input) (a b : List Event) (fits : inputFits w (a ++ b) ≡ true) (passed : refusal t w (a ++ b) ≡ 0) where
+  abbrev reached : State
+  reached = runFrom (w .scripts) (atFirst t w) a
+
+  whole : Accepted t w (a ++ b)
+  whole = accepted t w (a ++ b) passed fits
+
+  sound : Sound w reached
+  sound =
+      run-sound w (whole .fixed) (atFirst t w) (whole .first) a
+      (λ k h. subst (λ (e : Event). isAllowed w e ≡ true) (List·getD-append a b NoEvent k h) (whole .allowed k (longer k h)))
+      (λ k h. subst (λ (e : Event). eventFits e ≡ true) (List·getD-append a b NoEvent k h) (whole .fit k (longer k h)))
     where
-      sound : refusal t w events ≡ 0 → Sound w (runFrom (w .scripts) (atFirst t w) events)
-      sound e = let a : Accepted t w events = accepted t w events e fits in run-sound w (a .fixed) (atFirst t w) (a .first) events (a .allowed) (a .fit)
+      longer : (k : ℕ) → k < length a → k < length (a ++ b)
+      longer k h = omega (arith, length-append a b)
 
-  module _ (passed : refusal t w events ≡ 0) where
-    abbrev left : State
-    left = runFrom (w .scripts) (atFirst t w) events
+  pub agreement-kept : Agrees (reached .tables)
+  agreement-kept = sound .agrees′
 
-    a : Accepted t w events
-    a = accepted t w events passed fits
+  -- an open section's task owns the semaphore with nest 1
+  pub open-owned : (i : ℕ) → i < length (w .scripts) → 1 ≤ placeAt reached i .position
+      → let id = sectionAt (scriptAt (w .scripts) i) (placeAt reached i .section) .id in
+      (names (reached .tables) id ≡ true) × (slotOf (reached .tables) (id % 65536) .owner ≡ scriptAt (w .scripts) i .task) × (slotOf (reached .tables) (id % 65536) .nest ≡ 1)
+  open-owned i h o = let z = sound .stands i h .open′ o in (z .named, z .owner ∙ sym (numbered w (whole .fixed) i h), z .nest)
 
-    sound : Sound w left
-    sound = run-sound w (a .fixed) (atFirst t w) (a .first) events (a .allowed) (a .fit)
+  -- at most one section is open for an identifier
+  pub open-alone : (i j : ℕ) → i < length (w .scripts) → j < length (w .scripts) → 1 ≤ placeAt reached i .position → 1 ≤ placeAt reached j .position
+      → sectionAt (scriptAt (w .scripts) i) (placeAt reached i .section) .id ≡ sectionAt (scriptAt (w .scripts) j) (placeAt reached j .section) .id → i ≡ j
+  open-alone i j h l o p e =
+      same-script (w .scripts) (whole .fixed .single) (w .memory) reached (sound .serial) i j h l
+      (sym (open-owned i h o .1) ∙ ap (λ (y : ℕ). slotOf (reached .tables) (y % 65536) .owner) e ∙ open-owned j l p .1)
 
-    -- the grants reported are exactly those that the calls' answers make, sections open or not
-    pub grants-shown : run t w events .state .grants ≡ grantsShown (w .scripts) (λ q. 0) (answersIn t) (history (w .scripts) (atFirst t w) events)
-    grants-shown =
-        ap (λ (s : State). s .grants) (ran t w events passed)
-        ∙ run-reads w (a .fixed) (atFirst t w) (a .first) (λ q. 0) (record { each = none-yet }) events (a .allowed) (a .fit)
-      where
-        none-yet : (i : ℕ) → i < length (w .scripts)
-            → 0 ≡ placeAt (atFirst t w) i .section + bit (leb 1 (placeAt (atFirst t w) i .position) or waits (taskOf t (scriptAt (w .scripts) i .task)))
-        none-yet i h =
-            subst (λ (p : Place). 0 ≡ p .section + bit (leb 1 (p .position) or waits (taskOf t (scriptAt (w .scripts) i .task)))) (sym (getD-same (length (w .scripts)) (at 0 0) i))
-            (omega (arith, bit-no (leb 1 0 or waits (taskOf t (scriptAt (w .scripts) i .task))) (if-no true _ refl ∙ a .ready i h)))
+-- one event grants at most one section
+pub one-grant : (t : Tables) (w : Input) (a : List Event) (e : Event) (b : List Event) → inputFits w (a ++ e ∷ b) ≡ true → refusal t w (a ++ e ∷ b) ≡ 0
+    → let before = runFrom (w .scripts) (atFirst t w) a in
+    let after = eventOf (w .scripts) before e in
+    (after .grants ≡ before .grants) ⊎ ((g : Grant) × (after .grants ≡ before .grants ++ g ∷ []))
+one-grant t w a e b fits passed =
+    let all : Accepted t w (a ++ e ∷ b) = accepted t w (a ++ e ∷ b) passed fits in
+    let at-a : length a < length (a ++ e ∷ b) = omega (arith, length-append a (e ∷ b)) in
+    event-next w (all .fixed) (runFrom (w .scripts) (atFirst t w) a) (sound t w a (e ∷ b) fits passed) e
+    (subst (λ (e : Event). eventFits e ≡ true) (getD-append-seam a e b NoEvent) (all .fit (length a) at-a))
+    (subst (λ (e : Event). isAllowed w e ≡ true) (getD-append-seam a e b NoEvent) (all .allowed (length a) at-a)) .granted
 
-    -- an open section's task owns the semaphore with nest 1
-    pub open-owned : (i : ℕ) → i < length (w .scripts) → 1 ≤ placeAt left i .position → Owns (left .tables) (scriptAt (w .scripts) i .task) (idAt (scriptAt (w .scripts) i) (placeAt left i .section))
-    open-owned i h o =
-        subst (λ (q : ℕ). Owns (left .tables) q (idAt (scriptAt (w .scripts) i) (placeAt left i .section))) (sym (numbered w (a .fixed) i h)) (sound .stands i h .open′ o)
+-- the grants reported are exactly those that the calls' answers make, sections open or not
+pub grants-shown : (t : Tables) (w : Input) (events : List Event) → inputFits w events ≡ true → refusal t w events ≡ 0
+    → run t w events .state .grants ≡ grantsShown (w .scripts) (λ q. 0) (answersIn t) (history (w .scripts) (atFirst t w) events)
+grants-shown t w events fits passed =
+    let a : Accepted t w events = accepted t w events passed fits in
+    ap (λ (s : State). s .grants) (ran t w events passed)
+    ∙ run-reads w (a .fixed) (atFirst t w) (a .first) (λ q. 0) (record { each = λ i h. none-yet i (a .ready i h) }) events (a .allowed) (a .fit)
+  where
+    none-yet : (i : ℕ) → waits (taskOf t (scriptAt (w .scripts) i .task)) ≡ false
+        → 0 ≡ placeAt (atFirst t w) i .section + bit (leb 1 (placeAt (atFirst t w) i .position) or waits (taskOf t (scriptAt (w .scripts) i .task)))
+    none-yet i ready =
+        subst (λ (p : Place). 0 ≡ p .section + bit (leb 1 (p .position) or waits (taskOf t (scriptAt (w .scripts) i .task)))) (sym (getD-same (length (w .scripts)) (at 0 0) i))
+        (omega (arith, bit-no (leb 1 0 or waits (taskOf t (scriptAt (w .scripts) i .task))) (if-no true _ refl ∙ ready)))
 
-    -- at most one section is open for an identifier
-    pub open-alone : (i j : ℕ) → i < length (w .scripts) → j < length (w .scripts) → 1 ≤ placeAt left i .position → 1 ≤ placeAt left j .position
-        → idAt (scriptAt (w .scripts) i) (placeAt left i .section) ≡ idAt (scriptAt (w .scripts) j) (placeAt left j .section) → i ≡ j
-    open-alone i j h l o p e =
-        same-script (w .scripts) (a .fixed .single) (w .memory) left (sound .serial) i j h l
-        (sym (open-owned i h o .owner) ∙ ap (λ (y : ℕ). slotOf (left .tables) (y % 65536) .owner) e ∙ open-owned j l p .owner)
-
-    -- one event more, whatever follows it, grants at most one section
-    pub event-grants-one : (e : Event) → eventFits e ≡ true → isAllowed w e ≡ true → AtMostOne (left .grants) (eventOf (w .scripts) left e .grants)
-    event-grants-one e fit allowed = event-next w (a .fixed) left sound e fit allowed .granted
+-- a run, refused or not, keeps agreement
+pub run-agrees : (t : Tables) (w : Input) (events : List Event) → inputFits w events ≡ true → Agrees t → Agrees (run t w events .state .tables)
+run-agrees t w events fits agreeing =
+    elim (ℕ-discrete (refusal t w events) 0) [
+      | yes e ↦
+          let a : Accepted t w events = accepted t w events e fits in
+          subst (λ (s : State). Agrees (s .tables)) (sym (ran t w events e)) (run-sound w (a .fixed) (atFirst t w) (a .first) events (a .allowed) (a .fit) .agrees′)
+      | no n ↦ subst (λ (s : State). Agrees (s .tables)) (sym (refused-keeps t w events n)) agreeing
+    ]

@@ -38,7 +38,6 @@ use Rattle.sections.proofs.Finishing.{grant-is}
 use Rattle.sections.proofs.Indices.{index-task}
 use Rattle.sections.proofs.Serial.{grantOf, isOpenAt, restAt, restOf, Serial, Move, same-script, step-taken}
 use Rattle.sections.proofs.Serial.Move.{stays, passes, enters}
-use Rattle.sections.proofs.Kept.AtMostOne.{none}
 use Rattle.sections.proofs.Kept.{OfSection, Fixed, Sound, move-said, numbered, own-ids, back-of, granted-seen, Goes, goes-seen, Next, called-next}
 
 wait-fits : (options timeout : ℕ) → timeout ≤ maxNumber → waitFits (waitOf options timeout) ≡ true
@@ -197,7 +196,7 @@ module _ (w : Input) (F : Fixed w) (s : State) (S : Sound w s) where
 
       step-next : 1 ≤ p .position → p .position ≤ length (section .steps) → Next w s (acted (w .scripts) s i (Steps (getD (section .steps) (pred (p .position)) NoStep) (at (p .section) (suc (p .position)))))
       unfolding acted doSteps
-      step-next inside last = record { sound = sound; granted = none refl }
+      step-next inside last = record { sound = sound; granted = inl refl }
         where
           places : List Place
           places = set (s .places) i (at (p .section) (suc (p .position)))
@@ -280,7 +279,7 @@ module _ (w : Input) (F : Fixed w) (s : State) (S : Sound w s) where
     turn-next : Next w s (acted (w .scripts) s i (actOf (w .scripts) s i))
     unfolding actOf acted
     turn-next =
-        choose-cases Q (waits (taskOf (s .tables) (task i)) or leb (length (script .sections)) (p .section)) _ _ (λ e. record { sound = S; granted = none refl })
+        choose-cases Q (waits (taskOf (s .tables) (task i)) or leb (length (script .sections)) (p .section)) _ _ (λ e. record { sound = S; granted = inl refl })
         (λ e.
         let ready : waits (taskOf (s .tables) (task i)) ≡ false = not-first _ _ e in
         let more : p .section < length (script .sections) = leb-false _ _ (not-second _ _ e) in
@@ -300,4 +299,4 @@ module _ (w : Input) (F : Fixed w) (s : State) (S : Sound w s) where
   unfolding eventOf
   event-next (Turn q) fits allowed = turn-next (indexOf q (w .scripts)) (ltb-true _ _ allowed)
   event-next (Other r) fits allowed = other-next r fits allowed
-  event-next NoEvent fits allowed = record { sound = S; granted = none refl }
+  event-next NoEvent fits allowed = record { sound = S; granted = inl refl }

@@ -61,9 +61,8 @@ pub record Sound (w : Input) (s : State) : Type 0 where
   pub serial : Serial (w .scripts) (w .memory) s
 
 -- one event grants at most one section
-pub data AtMostOne (before after : List Grant) : Type 0 where
-  none : after ≡ before → AtMostOne before after
-  one : (g : Grant) → after ≡ before ++ g ∷ [] → AtMostOne before after
+abbrev pub AtMostOne : List Grant → List Grant → Type 0
+AtMostOne before after = (after ≡ before) ⊎ ((g : Grant) × (after ≡ before ++ g ∷ []))
 
 -- what an event leaves
 pub record Next (w : Input) (s s′ : State) : Type 0 where
@@ -222,9 +221,12 @@ module _ (w : Input) (F : Fixed w) where
       called-one =
           ⊎-elim
           (λ (k : (k : ℕ) × (k < N) × (eqb (answer k) 0 ≡ true)).
-          one (granted (k .0)) (ap (λ (gs : List Grant). s .grants ++ gs) (rows-one N (λ i. eqb (answer i) 0) granted (k .0) (k .1) (k .2)
-          (λ i h e. sole i (k .0) h (k .1) (eqb-true _ _ e) (eqb-true _ _ (k .2))))))
-          (λ (f : (i : ℕ) → i < N → eqb (answer i) 0 ≡ false). none (ap (λ (gs : List Grant). s .grants ++ gs) (rows-none N (λ i. eqb (answer i) 0) granted f) ∙ append-nil (s .grants)))
+          inr (
+            granted (k .0),
+            ap (λ (gs : List Grant). s .grants ++ gs) (rows-one N (λ i. eqb (answer i) 0) granted (k .0) (k .1) (k .2)
+                (λ i h e. sole i (k .0) h (k .1) (eqb-true _ _ e) (eqb-true _ _ (k .2)))),
+          ))
+          (λ (f : (i : ℕ) → i < N → eqb (answer i) 0 ≡ false). inl (ap (λ (gs : List Grant). s .grants ++ gs) (rows-none N (λ i. eqb (answer i) 0) granted f) ∙ append-nil (s .grants)))
           (some-or-none N (λ i. eqb (answer i) 0))
         where
           granted : ℕ → Grant
