@@ -1,33 +1,31 @@
 -- What a run that is not refused has checked, and that it begins in a sound state and stays in one.
-use mathlib.Core.Path.{_≡_, refl, sym, subst, ap, _∙_}
+use mathlib.Core.Path.{_≡_, refl, sym, subst, ap}
 use mathlib.Core.Bool.{Bool, true, false}
-use mathlib.Core.List.{List, [], _∷_, _++_}
+use mathlib.Core.List.{List, [], _∷_}
 use mathlib.Core.Logic.{⊎-elim}
 use Prim.Native.Nat.{ℕ, suc, pred, _%_, _≤_, _<_}
 use native.Mathlib.Omega.{arith}
-use lib.Dec.{leb, eqb}
-use lib.ListN.{length, getD, replicate, length-replicate}
+use lib.Dec.{eqb}
+use lib.ListN.{length, getD, length-replicate}
 use borrow.Author.Tests.{eqb-true, leb-true}
-use Rattle.laws.specs.Choose.{choose, _and_, isnt}
+use Rattle.laws.specs.Choose.{choose, _and_}
 use Rattle.laws.proofs.Choose.{and-both, never, isnt-false}
 use Rattle.laws.proofs.All.{all-at}
 use Rattle.laws.proofs.Fit.{getD-same}
-use Rattle.rules.specs.Numbers.{maxNumber, isBinary}
-use Rattle.rules.specs.Machine.{Tables, taskOf, slotOf, waits, names}
+use Rattle.rules.specs.Machine.{Tables, taskOf, slotOf, waits}
 use Rattle.rules.specs.Agreement.{Agrees, agrees, sizesFit}
 use Rattle.rules.proofs.Invariants.Agreeing.{true-agrees}
 use Rattle.rules.proofs.Invariants.Refusals.{must}
 use Rattle.rules.proofs.History.Used.{named-used}
 use Rattle.sections.specs.Scripts.{Script, scriptAt, sectionAt, plain}
-use Rattle.sections.specs.Scripts.Step.{NoStep}
 use Rattle.sections.specs.Run.{Event, Place, at, State, placeAt, eventOf, runFrom}
 use Rattle.sections.specs.Run.Event.{NoEvent}
 use Rattle.sections.specs.Refusals.{Input, eachScript, eachSection, eachEvent, limitsFit, stepsFit, oneScriptEach, isEvent, isGuard, isReady, isAllowed, refusal, atFirst, eventFits, inputFits}
-use Rattle.sections.proofs.Standing.{Guard, idAt, Stand}
+use Rattle.sections.proofs.Standing.{idAt, Stand}
 use Rattle.sections.proofs.Footprints.{all-steps}
 use Rattle.sections.proofs.Finishing.{times, finish}
 use Rattle.sections.proofs.Serial.{closed}
-use Rattle.sections.proofs.Kept.{OfSection, Fixed, Sound, Next}
+use Rattle.sections.proofs.Kept.{OfSection, Fixed, Sound}
 use Rattle.sections.proofs.Events.{event-next}
 
 -- N tasks are at most 32

@@ -1,21 +1,20 @@
 -- What a task's own obtain and release do to its wait and to what it owns.
 use mathlib.Core.Path.{_≡_, refl, sym, subst, ap, _∙_}
 use mathlib.Core.Bool.{true, false}
-use mathlib.Core.List.{List}
-use mathlib.Core.Logic.{_⊎_, inl, inr, ⊎-elim, _≢_}
-use Prim.Native.Nat.{ℕ, zero, suc, _≤_, _<_}
+use mathlib.Core.Logic.{⊎-elim, _≢_}
+use Prim.Native.Nat.{ℕ, zero, suc, _≤_}
 use native.Mathlib.Omega.{arith}
 use native.Mathlib.Decide.{ℕ-discrete}
-use lib.Dec.{leb, ltb, eqb}
+use lib.Dec.{leb, eqb}
 use lib.ListN.{length, getD, set}
 use lib.Seq.{getD-set-same, getD-set-other}
 use borrow.Author.Tests.{eqb-true, eqb-false, eq-eqb, ne-eqb, leb-true, le-ltb}
-use Rattle.laws.specs.Choose.{choose, _and_, _or_, isnt}
-use Rattle.laws.proofs.Choose.{choose-cases, and-both, both-and, never, tested, if-yes, if-no, false-isnt, or-first}
+use Rattle.laws.specs.Choose.{choose, _and_, isnt}
+use Rattle.laws.proofs.Choose.{choose-cases, and-both, both-and, never, if-yes, if-no, false-isnt, or-first}
 use Rattle.rules.specs.declared.Task.{Task}
 use Rattle.rules.specs.declared.Wait.{Wait}
-use Rattle.rules.specs.Numbers.{isBinary, isSimple, maximum, maxNumber}
-use Rattle.rules.specs.Machine.{Slot, Tables, noTask, freeSlot, taskOf, slotOf, putSlot, putTask, waits, isLive, idOf, names, slotNamed, urgency}
+use Rattle.rules.specs.Numbers.{isBinary, maximum, maxNumber}
+use Rattle.rules.specs.Machine.{Slot, Tables, noTask, freeSlot, slotOf, putSlot, putTask, waits, isLive, idOf, names, slotNamed, urgency}
 use Rattle.rules.specs.Agreement.{occurs}
 use Rattle.rules.specs.Semaphore.{handed, ownedBy, polls, placeOf, Taken, takeStep, Given, giveStep, passStep}
 use Rattle.rules.specs.Calls.{Outcome, answered, refused, readied, blocked, wake, callerRefusal, anyCaller, taskOnly, obtainRefusal, obtain, releaseRefusal, release}
@@ -24,7 +23,6 @@ use Rattle.rules.proofs.Invariants.Facts.{nthTask, nthSlot, Unheld, Held, Facts
 use Rattle.rules.proofs.Invariants.Links.{nowhere}
 use Rattle.rules.proofs.Invariants.PartsKept.{below}
 use Rattle.rules.proofs.Invariants.Refusals.{must, mustnt, Caller, task-only, Found, found}
-use Rattle.sections.proofs.Others.{Observed}
 
 -- a task has a semaphore of slot j, once
 pub record Holds (t : Tables) (q j : ℕ) : Type 0 where

@@ -1,15 +1,15 @@
 -- Demand 3 whole, and what else holds of a run of guarded sections.
 use mathlib.Core.Path.{_≡_, refl, sym, subst, ap, _∙_}
-use mathlib.Core.Bool.{Bool, true, false}
+use mathlib.Core.Bool.{true, false}
 use mathlib.Core.List.{List, [], _∷_, _++_}
-use mathlib.Core.Logic.{_⊎_, inl, inr, ⊎-elim, _≢_}
+use mathlib.Core.Logic.{_⊎_, _≢_}
 use Prim.Native.Nat.{ℕ, _+_, _%_, _≤_, _<_}
 use native.Mathlib.Omega.{arith}
 use native.Mathlib.Decide.{ℕ-discrete, decLt}
 use lib.Dec.{leb, eqb}
-use lib.ListN.{length, getD, length-append, List·getD-append, List·getD-eq-default}
+use lib.ListN.{length, length-append, List·getD-append, List·getD-eq-default}
 use lib.Seq.{getD-append-seam}
-use borrow.Author.Tests.{eqb-true, ne-eqb, leb-false}
+use borrow.Author.Tests.{ne-eqb, leb-false}
 use Rattle.laws.specs.Choose.{choose, _or_, bit}
 use Rattle.laws.proofs.Choose.{choose-same, if-yes, if-no}
 use Rattle.laws.proofs.Fit.{getD-same}
@@ -18,7 +18,7 @@ use Rattle.rules.specs.Agreement.{Agrees}
 use Rattle.sections.specs.Scripts.{Script, Grant, scriptAt, sectionAt, indexOf, plain}
 use Rattle.sections.specs.Run.{Event, Place, at, State, placeAt, eventOf, runFrom, openOf}
 use Rattle.sections.specs.Run.Event.{NoEvent}
-use Rattle.sections.specs.Refusals.{Input, isAllowed, refusal, atFirst, Ran, run, eventFits, inputFits}
+use Rattle.sections.specs.Refusals.{Input, isAllowed, refusal, atFirst, run, eventFits, inputFits}
 use Rattle.sections.specs.History.{answersIn, history, grantsShown}
 use Rattle.rules.proofs.Invariants.Lists.{bit-no}
 use Rattle.sections.proofs.Finishing.{finish-none}

@@ -1,43 +1,43 @@
 -- Each event keeps a sound state sound: a call by someone else, and a turn that obtains, takes a step or releases.
 use mathlib.Core.Path.{_≡_, refl, sym, subst, ap, _∙_}
 use mathlib.Core.Bool.{Bool, true, false}
-use mathlib.Core.List.{List, [], _∷_}
-use mathlib.Core.Logic.{_⊎_, inl, inr, ⊎-elim, _≢_}
-use Prim.Native.Nat.{ℕ, suc, pred, _/_, _%_, _≤_, _<_}
+use mathlib.Core.List.{List, []}
+use mathlib.Core.Logic.{inl, inr, ⊎-elim, _≢_}
+use Prim.Native.Nat.{ℕ, suc, pred, _%_, _≤_, _<_}
 use native.Mathlib.Omega.{arith}
 use native.Mathlib.Decide.{ℕ-discrete, decLt}
-use lib.Dec.{leb, ltb, eqb}
+use lib.Dec.{leb, eqb}
 use lib.ListN.{length, getD, set, drop, List·getD-eq-default}
 use lib.Seq.{getD-set-same, getD-set-other, set-getD}
-use borrow.Author.Tests.{eqb-true, eqb-false, ltb-true, ltb-false, leb-true, leb-false, le-leb, lt-leb}
-use Rattle.laws.specs.Choose.{choose, _or_, _and_}
-use Rattle.laws.proofs.Choose.{choose-cases, and-both, both-and, never, tested, if-yes, if-no, isnt-false, or-first, or-second}
+use borrow.Author.Tests.{eqb-true, eqb-false, ltb-true, ltb-false, leb-true, leb-false, le-leb}
+use Rattle.laws.specs.Choose.{_or_}
+use Rattle.laws.proofs.Choose.{choose-cases, and-both, both-and, never, tested, isnt-false, or-first, or-second}
 use Rattle.rules.specs.declared.Call.{Call}
 use Rattle.rules.specs.declared.Call.the-variants.{Obtain, Release}
 use Rattle.rules.specs.declared.Wait.{Wait}
 use Rattle.rules.specs.Numbers.{maxNumber}
 use Rattle.rules.specs.Machine.{Tables, slotOf, taskOf, waits, names}
 use Rattle.rules.specs.Semaphore.{waitOf}
-use Rattle.rules.specs.Calls.{Outcome, obtain, release, perform}
+use Rattle.rules.specs.Calls.{obtain, release, perform}
 use Rattle.rules.specs.Runs.{Request}
 use Rattle.rules.specs.Fits.{fits, waitFits, callFits}
-use Rattle.rules.proofs.Invariants.Facts.{nthTask, nthSlot, Facts}
+use Rattle.rules.proofs.Invariants.Facts.{Facts}
 use Rattle.rules.proofs.Invariants.FromTests.{agrees-facts}
 use Rattle.rules.proofs.History.Used.{Used}
 use Rattle.sections.specs.Scripts.{Step, Section, Script, Memory, Grant, scriptAt, sectionAt, indexOf, stepsOf, doStep, doSteps}
 use Rattle.sections.specs.Scripts.Step.{NoStep}
 use Rattle.sections.specs.Run.{Event, Place, at, State, placeAt, moved, callerOf, said, placeAfter, called, Act, actOf, ask, acted, eventOf}
-use Rattle.sections.specs.Run.Act.{Nothing, Calls, Steps}
+use Rattle.sections.specs.Run.Act.{Steps}
 use Rattle.sections.specs.Run.Event.{Turn, Other, NoEvent}
 use Rattle.sections.specs.Refusals.{Input, isAllowed, eventFits}
 use Rattle.sections.proofs.Others.{handedTo}
-use Rattle.sections.proofs.Standing.{Guard, Owns, idAt, Stand, place-said}
-use Rattle.sections.proofs.Turns.{said-own, said-released, stand-obtain, stand-release}
-use Rattle.sections.proofs.Footprints.{AllSteps, steps-at, drop-steps, step-commutes}
+use Rattle.sections.proofs.Standing.{Owns, idAt, Stand, place-said}
+use Rattle.sections.proofs.Turns.{said-released, stand-obtain, stand-release}
+use Rattle.sections.proofs.Footprints.{steps-at, drop-steps, step-commutes}
 use Rattle.sections.proofs.Finishing.{grant-is}
 use Rattle.sections.proofs.Indices.{index-task}
-use Rattle.sections.proofs.Serial.{grantOf, isOpenAt, restAt, restOf, Serial, Move, same-script, step-taken}
-use Rattle.sections.proofs.Serial.Move.{stays, passes, enters}
+use Rattle.sections.proofs.Serial.{grantOf, isOpenAt, restOf, same-script, step-taken}
+use Rattle.sections.proofs.Serial.Move.{passes}
 use Rattle.sections.proofs.Kept.{OfSection, Fixed, Sound, move-said, numbered, own-ids, back-of, granted-seen, Goes, goes-seen, Next, called-next}
 
 wait-fits : (options timeout : ℕ) → timeout ≤ maxNumber → waitFits (waitOf options timeout) ≡ true
@@ -279,15 +279,15 @@ module _ (w : Input) (F : Fixed w) (s : State) (S : Sound w s) where
     turn-next : Next w s (acted (w .scripts) s i (actOf (w .scripts) s i))
     unfolding actOf acted
     turn-next =
-        choose-cases Q (waits (taskOf (s .tables) (task i)) or leb (length (script .sections)) (p .section)) _ _ (λ e. record { sound = S; granted = inl refl })
+        choose-cases Q _ _ _ (λ e. record { sound = S; granted = inl refl })
         (λ e.
         let ready : waits (taskOf (s .tables) (task i)) ≡ false = not-first _ _ e in
         let more : p .section < length (script .sections) = leb-false _ _ (not-second _ _ e) in
-        choose-cases Q (eqb (p .position) 0) _ _
+        choose-cases Q _ _ _
         (λ z. obtain-next ready more (waitOf (section .options) (section .timeout)) (wait-fits (section .options) (section .timeout) (F .timeouts i (p .section) h more)) (eqb-true _ _ z))
         (λ z.
         let some : p .position ≢ 0 = eqb-false _ _ z in
-        choose-cases Q (leb (p .position) (length (section .steps))) _ _
+        choose-cases Q _ _ _
         (λ y. step-next ready more (omega arith) (leb-true _ _ y)) (λ y. release-next ready more (leb-false _ _ y))))
       where
         Q : Act → Type 0

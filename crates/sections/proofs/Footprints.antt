@@ -1,6 +1,6 @@
 -- Steps of two tasks in sections of two identifiers touch different cells and locals, so that either may go first.
 use mathlib.Core.Path.{_≡_, refl, sym, ap, ap₂, _∙_}
-use mathlib.Core.Bool.{true, false, false≢true}
+use mathlib.Core.Bool.{true, false≢true}
 use mathlib.Core.List.{List, [], _∷_}
 use mathlib.Core.Logic.{_≢_}
 use Prim.Native.Nat.{ℕ, zero, suc, pred, _+_, _*_, _%_, _≤_, _<_}
@@ -10,8 +10,6 @@ use lib.ListN.{length, getD, set, drop}
 use lib.Seq.{set-comm, getD-set-other}
 use borrow.Author.Tests.{eqb-true, ltb-true}
 use Rattle.laws.proofs.Choose.{and-both}
-use Rattle.laws.specs.All.{all}
-use Rattle.laws.proofs.All.{all-at, all-of}
 use Rattle.sections.specs.Scripts.{Step, Memory, doStep, doSteps}
 use Rattle.sections.specs.Scripts.Step.{Load, Store, Set, Add, NoStep}
 use Rattle.sections.specs.Refusals.{isStep}

@@ -2,17 +2,16 @@
 use mathlib.Core.Path.{_≡_, refl, sym, subst, ap, _∙_}
 use mathlib.Core.Bool.{Bool, true, false}
 use mathlib.Core.List.{List, [], _∷_, _++_, append-assoc, append-nil}
-use mathlib.Core.Logic.{_⊎_, ⊎-elim, _≢_}
+use mathlib.Core.Logic.{_≢_}
 use Prim.Native.Nat.{ℕ, suc, pred, _+_, _≤_, _<_}
 use native.Mathlib.Omega.{arith}
 use native.Mathlib.Decide.{ℕ-discrete}
 use lib.Dec.{leb, eqb}
 use lib.ListN.{length, getD, set}
 use lib.Seq.{getD-set-same, getD-set-other, set-getD}
-use borrow.Author.Tests.{eqb-true, eqb-false, eq-eqb, ne-eqb, leb-true, leb-false, le-leb, ltb-true}
+use borrow.Author.Tests.{eqb-true, eqb-false, eq-eqb, ne-eqb, leb-false, le-leb, ltb-true}
 use Rattle.laws.specs.Choose.{choose, _or_, bit}
-use Rattle.laws.specs.Rows.{tabulate, rows}
-use Rattle.laws.proofs.Choose.{choose-cases, both-and, never, tested, if-yes, if-no, or-first, or-second}
+use Rattle.laws.proofs.Choose.{choose-cases, never, or-first, or-second}
 use Rattle.rules.specs.declared.Call.{Call}
 use Rattle.rules.specs.declared.Call.the-variants.{Obtain, Release}
 use Rattle.rules.specs.declared.Wait.{Wait}
@@ -23,14 +22,14 @@ use Rattle.rules.specs.Runs.{Request}
 use Rattle.rules.specs.Promises.{kindOf}
 use Rattle.rules.proofs.Invariants.Lists.{bit-yes, bit-no}
 use Rattle.rules.proofs.Invariants.FromTests.{agrees-facts}
-use Rattle.sections.specs.Scripts.{Step, Section, Script, Grant, scriptAt, sectionAt, indexOf}
+use Rattle.sections.specs.Scripts.{Section, Script, Grant, scriptAt, sectionAt, indexOf}
 use Rattle.sections.specs.Scripts.Step.{NoStep}
-use Rattle.sections.specs.Run.{Event, Place, at, State, placeAt, moved, callerOf, obtainerOf, said, placeAfter, grantIf, called, Act, actOf, ask, acted, eventOf, runFrom}
+use Rattle.sections.specs.Run.{Event, Place, at, State, placeAt, moved, callerOf, obtainerOf, said, placeAfter, called, Act, actOf, ask, acted, eventOf, runFrom}
 use Rattle.sections.specs.Run.Act.{Nothing, Calls, Steps}
 use Rattle.sections.specs.Run.Event.{Turn, Other, NoEvent}
 use Rattle.sections.specs.Refusals.{Input, isAllowed, eventFits}
 use Rattle.sections.specs.History.{Shown, answersIn, shownNone, shownCall, shownAct, shownAt, history, grantsShown}
-use Rattle.sections.proofs.Standing.{idAt, place-said}
+use Rattle.sections.proofs.Standing.{place-said}
 use Rattle.sections.proofs.Callers.{obtained}
 use Rattle.sections.proofs.Turns.{said-own, said-released, own-waits, given-up}
 use Rattle.sections.proofs.Kept.{OfSection, Fixed, Sound, numbered, own-ids, back-of, first-seen, waits-seen, silent-seen}
@@ -166,14 +165,14 @@ module _ (w : Input) (F : Fixed w) (s : State) (S : Sound w s) (obtains : ℕ �
     turn-reads : Reads w obtains s (acted (w .scripts) s i (actOf (w .scripts) s i)) (shownAct (s .tables) (actOf (w .scripts) s i))
     unfolding actOf acted
     turn-reads =
-        choose-cases Q (waits (taskOf (s .tables) (task i)) or leb (length (script .sections)) (p .section)) _ _ (λ e. quiet-reads w s obtains C (F .tasks) s refl refl (λ j l. (refl, refl)))
+        choose-cases Q _ _ _ (λ e. quiet-reads w s obtains C (F .tasks) s refl refl (λ j l. (refl, refl)))
         (λ e.
         let ready : waits (taskOf (s .tables) (task i)) ≡ false = not-first _ _ e in
         let more : p .section < length (script .sections) = leb-false _ _ (not-second _ _ e) in
-        choose-cases Q (eqb (p .position) 0) _ _ (λ z. obtain-reads ready more (waitOf (section .options) (section .timeout)) (eqb-true _ _ z))
+        choose-cases Q _ _ _ (λ z. obtain-reads ready more (waitOf (section .options) (section .timeout)) (eqb-true _ _ z))
         (λ z.
         let some : p .position ≢ 0 = eqb-false _ _ z in
-        choose-cases Q (leb (p .position) (length (section .steps))) _ _ (λ y. step-reads ready more (omega arith)) (λ y. release-reads ready more (leb-false _ _ y))))
+        choose-cases Q _ _ _ (λ y. step-reads ready more (omega arith)) (λ y. release-reads ready more (leb-false _ _ y))))
       where
         Q : Act → Type 0
         Q a = Reads w obtains s (acted (w .scripts) s i a) (shownAct (s .tables) a)

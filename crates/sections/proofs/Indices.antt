@@ -1,5 +1,5 @@
 -- Laws of a script's place in the list, and of a list to which each script adds at most one.
-use mathlib.Core.Path.{_≡_, refl, sym, subst, ap, _∙_}
+use mathlib.Core.Path.{_≡_, refl, subst, ap, _∙_}
 use mathlib.Core.Bool.{Bool, true, false}
 use mathlib.Core.List.{List, [], _∷_, _++_}
 use mathlib.Core.Logic.{_⊎_, inl, inr, ⊎-elim}
@@ -11,7 +11,7 @@ use lib.ListN.{length}
 use borrow.Author.Tests.{eqb-true}
 use Rattle.laws.specs.Choose.{choose}
 use Rattle.laws.specs.Rows.{tabulate, rows}
-use Rattle.laws.proofs.Choose.{choose-cases, tested, never, if-yes, if-no}
+use Rattle.laws.proofs.Choose.{choose-cases, tested, if-yes, if-no}
 use Rattle.sections.specs.Scripts.{Script, scriptAt, indexOf}
 
 pub index-task : (q : ℕ) (scripts : List Script) → indexOf q scripts < length scripts → scriptAt scripts (indexOf q scripts) .task ≡ q

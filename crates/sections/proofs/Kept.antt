@@ -1,22 +1,21 @@
 -- Every event of a run that is not refused keeps what holds of the tables, the places, the grants and the memory.
 use mathlib.Core.Path.{_≡_, refl, sym, subst, ap, _∙_}
-use mathlib.Core.Bool.{Bool, true, false}
+use mathlib.Core.Bool.{true, false}
 use mathlib.Core.List.{List, [], _∷_, _++_, append-nil}
 use mathlib.Core.Logic.{_⊎_, inl, inr, ⊎-elim, _≢_}
 use Prim.Native.Nat.{ℕ, suc, pred, _≤_, _<_}
 use native.Mathlib.Omega.{arith}
 use native.Mathlib.Decide.{ℕ-discrete}
 use lib.Dec.{eqb}
-use lib.ListN.{length, getD, set, length-set}
-use lib.Seq.{getD-set-same, getD-set-other}
+use lib.ListN.{length, getD}
 use borrow.Author.Tests.{eqb-true, eq-eqb, ne-eqb}
 use Rattle.laws.specs.Choose.{choose}
-use Rattle.laws.specs.Rows.{tabulate, rows}
+use Rattle.laws.specs.Rows.{rows}
 use Rattle.laws.proofs.Choose.{choose-cases, if-yes, if-no}
 use Rattle.laws.proofs.Fit.{length-tabulate, getD-tabulate, tabulate-same}
 use Rattle.rules.specs.declared.Call.{Call}
 use Rattle.rules.specs.Numbers.{maxNumber}
-use Rattle.rules.specs.Machine.{Tables, taskOf, waits}
+use Rattle.rules.specs.Machine.{Tables, waits}
 use Rattle.rules.specs.Agreement.{Agrees}
 use Rattle.rules.specs.Calls.{Outcome, perform}
 use Rattle.rules.specs.Fits.{callFits}
@@ -24,7 +23,7 @@ use Rattle.rules.proofs.Invariants.Facts.{nthTask, Facts}
 use Rattle.rules.proofs.Invariants.FromTests.{agrees-facts}
 use Rattle.rules.proofs.Invariants.Kept.{kept}
 use Rattle.rules.proofs.Invariants.Links.{SameWait}
-use Rattle.sections.specs.Scripts.{Step, Script, Memory, Grant, scriptAt, sectionAt, indexOf}
+use Rattle.sections.specs.Scripts.{Step, Script, Grant, scriptAt, sectionAt, indexOf}
 use Rattle.sections.specs.Run.{Place, at, State, placeAt, callerOf, obtainerOf, said, placeAfter, grantIf, called}
 use Rattle.sections.specs.Refusals.{Input}
 use Rattle.sections.proofs.Others.{Woken, Observed, handedTo}

@@ -1,4 +1,5 @@
 pub mod Worked
+pub mod Needed
 pub mod Others
 pub mod Observing
 pub mod Callers

@@ -2,24 +2,24 @@
 use mathlib.Core.Path.{_≡_, refl, sym, subst, ap, _∙_}
 use mathlib.Core.Bool.{true, false}
 use mathlib.Core.List.{List, map}
-use mathlib.Core.Logic.{_⊎_, inl, inr, ⊎-elim, _≢_}
-use Prim.Native.Nat.{ℕ, zero, suc, pred, _-_, _≤_, _<_}
+use mathlib.Core.Logic.{inl, inr, ⊎-elim, _≢_}
+use Prim.Native.Nat.{ℕ, zero, suc, pred, _≤_}
 use native.Mathlib.Omega.{arith}
 use native.Mathlib.Decide.{ℕ-discrete}
 use lib.Dec.{leb, eqb}
-use lib.ListN.{length, getD, set, drop, length-set, length-map}
+use lib.ListN.{length, getD, length-set, length-map}
 use lib.Seq.{getD-set-same, getD-set-other}
-use borrow.Author.Tests.{eqb-true, eqb-false, leb-true, le-leb, ne-eqb, eq-eqb}
+use borrow.Author.Tests.{eqb-true, eqb-false, leb-true, le-leb, ne-eqb}
 use Rattle.laws.specs.Choose.{choose, _and_, _or_, isnt}
-use Rattle.laws.proofs.Choose.{choose-cases, and-both, both-and, never, tested, if-yes, if-no, isnt-false, false-isnt}
+use Rattle.laws.proofs.Choose.{choose-cases, and-both, both-and, never, tested, if-yes, if-no, false-isnt}
 use Rattle.rules.specs.declared.Call.{Call}
 use Rattle.rules.specs.declared.Call.the-variants.{Start, Create, Ident, Delete, Obtain, Release, Flush, Tick}
 use Rattle.rules.specs.declared.Task.{Task}
 use Rattle.rules.specs.declared.Wait.{Wait}
-use Rattle.rules.specs.Numbers.{isBinary, maximum, maxNumber}
+use Rattle.rules.specs.Numbers.{isBinary, maximum}
 use Rattle.rules.specs.Machine.{Slot, Tables, noTask, freeSlot, taskOf, slotOf, putSlot, putTask, waits, isLive, idOf, names, slotNamed, urgency}
 use Rattle.rules.specs.Agreement.{occurs}
-use Rattle.rules.specs.Semaphore.{counted, handed, ownedBy, polls, placeOf, insertAt, Taken, takeStep, Given, giveStep, passStep, flushStep}
+use Rattle.rules.specs.Semaphore.{handed, ownedBy, placeOf, Taken, takeStep, Given, giveStep, passStep, flushStep}
 use Rattle.rules.specs.Calls.{Outcome, answered, readied, blocked, wake, wakeAll, startRefusal, started, start, openSlot, createRefusal, newSemaphore, create, firstNamed, ident, deleteRefusal, delete, obtainRefusal, obtain, releaseRefusal, release, flushRefusal, flush, expires, ticked, tickedSlot, tick, perform}
 use Rattle.rules.proofs.Invariants.Lists.{occurs-at, getD-map}
 use Rattle.rules.proofs.Invariants.Facts.{nthTask, nthSlot, waitsOn, Unheld, Held, Facts, waits-within, live-within}
@@ -29,7 +29,7 @@ use Rattle.rules.proofs.Invariants.Refusals.{must, mustnt, task-only, any-calle
 use Rattle.rules.proofs.Invariants.Tick.{ticked-woken, ticked-same, ticked-none, ticked-free}
 use Rattle.rules.proofs.Invariants.Making.{Open, first-free}
 use Rattle.sections.specs.Run.{callerOf}
-use Rattle.sections.proofs.Others.{SameHold, Watched, watched-same, handedTo, Got, Woken, Handed, Observed, same-wait, observed-same, observed-unless, put-watched, observed-emptied}
+use Rattle.sections.proofs.Others.{Watched, watched-same, handedTo, Woken, Handed, Observed, same-wait, observed-same, observed-unless, put-watched, observed-emptied}
 
 module _ (t : Tables) (f : Facts t) (i : ℕ) where
   -- a live binary semaphore with a unit left is nobody's

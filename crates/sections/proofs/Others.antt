@@ -1,14 +1,12 @@
 -- What a call does to a task that is not its caller: its wait goes on or ends, and it keeps and gains semaphores only by its wait.
 use mathlib.Core.Path.{_≡_, refl, sym, subst, ap, _∙_}
 use mathlib.Core.Bool.{true, false}
-use mathlib.Core.List.{List, []}
-use mathlib.Core.Logic.{_⊎_, inl, inr, ⊎-elim, _≢_}
+use mathlib.Core.List.{List}
+use mathlib.Core.Logic.{_⊎_, inl, inr, _≢_}
 use Prim.Native.Nat.{ℕ, suc, _≤_, _<_}
-use native.Mathlib.Omega.{arith}
 use lib.Dec.{leb}
 use lib.ListN.{length, getD, set}
 use borrow.Author.Tests.{leb-true}
-use Rattle.laws.specs.Choose.{choose}
 use Rattle.laws.proofs.Choose.{choose-cases, and-both}
 use Rattle.rules.specs.declared.Call.{Call}
 use Rattle.rules.specs.declared.Call.the-variants.{Start, Create, Ident, Delete, Obtain, Release, Flush, Tick}
@@ -19,7 +17,7 @@ use Rattle.rules.specs.Agreement.{occurs}
 use Rattle.rules.specs.Semaphore.{giveStep}
 use Rattle.rules.specs.Calls.{Outcome, refused, unless, readied, wakeAll}
 use Rattle.rules.proofs.Invariants.Lists.{set-updated, updated-cases}
-use Rattle.rules.proofs.Invariants.Facts.{nthTask, nthSlot, isEnding, waitsOn, Facts, waits-within, live-within}
+use Rattle.rules.proofs.Invariants.Facts.{nthTask, nthSlot, waitsOn, Facts, waits-within, live-within}
 use Rattle.rules.proofs.Invariants.Links.{SameWait, waits-there}
 use Rattle.rules.proofs.Invariants.Waking.{wokenOf, wakeAll-task, wakeAll-slots, wakeAll-length}
 use Rattle.rules.proofs.Invariants.PartsKept.{below}

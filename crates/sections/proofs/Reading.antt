@@ -1,25 +1,24 @@
 -- The grants reported are those that the history shows: a task's obtains so far are its sections passed, and one more while it waits or is inside.
 use mathlib.Core.Path.{_≡_, refl, sym, subst, ap, ap₂, _∙_}
 use mathlib.Core.Bool.{Bool, true, false, true≢false, false≢true}
-use mathlib.Core.List.{List, [], _∷_, _++_, map, append-nil, append-assoc}
-use mathlib.Core.Logic.{_⊎_, inl, inr, ⊎-elim, _≢_}
+use mathlib.Core.List.{List, [], _∷_, _++_, append-nil}
+use mathlib.Core.Logic.{⊎-elim, _≢_}
 use Prim.Native.Nat.{ℕ, suc, pred, _+_, _≤_, _<_}
 use native.Mathlib.Omega.{arith}
 use native.Mathlib.Decide.{ℕ-discrete}
 use lib.Dec.{leb, eqb}
-use lib.ListN.{length, getD, set, List·getD-map}
-use lib.Seq.{getD-set-same, getD-set-other}
-use borrow.Author.Tests.{eqb-true, eqb-false, eq-eqb, ne-eqb, le-leb, lt-leb}
-use Rattle.laws.specs.Choose.{choose, _and_, _or_, bit}
+use lib.ListN.{length, getD, List·getD-map}
+use borrow.Author.Tests.{eqb-true, eq-eqb, ne-eqb, lt-leb}
+use Rattle.laws.specs.Choose.{choose, _or_, bit}
 use Rattle.laws.specs.Rows.{tabulate, rows}
-use Rattle.laws.proofs.Choose.{choose-cases, choose-same, and-both, both-and, never, tested, if-yes, if-no, or-second}
+use Rattle.laws.proofs.Choose.{choose-cases, choose-same, tested, if-yes, if-no}
 use Rattle.laws.proofs.Fit.{getD-tabulate, tabulate-same}
 use Rattle.rules.specs.declared.Call.{Call}
 use Rattle.rules.specs.declared.Task.{Task}
 use Rattle.rules.specs.Machine.{Tables, noTask, taskOf, waits}
 use Rattle.rules.specs.Calls.{Outcome, perform}
 use Rattle.rules.proofs.Invariants.Lists.{bit-yes, bit-no}
-use Rattle.sections.specs.Scripts.{Script, Grant, scriptAt}
+use Rattle.sections.specs.Scripts.{Grant, scriptAt}
 use Rattle.sections.specs.Run.{Place, at, State, placeAt, obtainerOf, said, placeAfter, grantIf, called}
 use Rattle.sections.specs.Refusals.{Input}
 use Rattle.sections.specs.History.{Shown, answersIn, shownNone, shownCall, answerShown}

@@ -2,22 +2,22 @@
 use mathlib.Core.Path.{_≡_, refl, sym, subst, ap, _∙_}
 use mathlib.Core.Bool.{Bool, true, false}
 use mathlib.Core.List.{List, [], _∷_, _++_, append-nil}
-use mathlib.Core.Logic.{_⊎_, inl, inr, ⊎-elim, _≢_}
+use mathlib.Core.Logic.{_⊎_, ⊎-elim, _≢_}
 use Prim.Native.Nat.{ℕ, suc, pred, _+_, _≤_, _<_}
 use native.Mathlib.Omega.{arith}
 use native.Mathlib.Decide.{ℕ-discrete, decLt}
 use lib.Dec.{leb, eqb}
-use lib.ListN.{length, getD, set, drop, length-set, drop-of-length-le, List·getD-eq-default}
+use lib.ListN.{length, getD, drop, length-set, drop-of-length-le, List·getD-eq-default}
 use lib.Seq.{getD-set-same, getD-set-other, drop-cons}
-use borrow.Author.Tests.{eqb-true, eqb-false, eq-eqb, ne-eqb, leb-true, le-leb, lt-leb}
+use borrow.Author.Tests.{eqb-true, eq-eqb, ne-eqb, le-leb, lt-leb}
 use Rattle.laws.specs.Choose.{choose, _and_, bit}
 use Rattle.laws.specs.Rows.{tabulate, rows}
-use Rattle.laws.proofs.Choose.{choose-cases, choose-same, and-both, both-and, tested, never, if-yes, if-no}
+use Rattle.laws.proofs.Choose.{choose-cases, and-both, both-and, tested, never, if-yes, if-no}
 use Rattle.rules.proofs.Invariants.Lists.{bit-yes, bit-no}
 use Rattle.sections.specs.Scripts.{Step, Script, Memory, Grant, scriptAt, sectionAt, indexOf, stepsOf, doStep, doSteps, plain}
 use Rattle.sections.specs.Scripts.Step.{NoStep}
 use Rattle.sections.specs.Run.{Place, at, State, placeAt, moved, grantIf}
-use Rattle.sections.proofs.Finishing.{isGrant, grant-is, is-grant, times, times-append, finish, plain-finish, finish-append, finish-same, finish-step}
+use Rattle.sections.proofs.Finishing.{isGrant, grant-is, times, times-append, finish, plain-finish, finish-append, finish-same, finish-step}
 use Rattle.sections.proofs.Indices.{index-task, some-or-none, rows-none, rows-one}
 
 abbrev pub grantOf : List Script → ℕ → ℕ → Grant

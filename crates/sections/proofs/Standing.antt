@@ -1,8 +1,8 @@
 -- How a script's place goes with the tables: an open section's task has its semaphore once, a waiting task waits on its section's semaphore,
 -- and no script task has another section's semaphore. Every call keeps that.
 use mathlib.Core.Path.{_≡_, refl, sym, subst, ap, _∙_}
-use mathlib.Core.Bool.{Bool, true, false}
-use mathlib.Core.List.{List, []}
+use mathlib.Core.Bool.{true, false}
+use mathlib.Core.List.{List}
 use mathlib.Core.Logic.{_⊎_, inl, inr, ⊎-elim, _≢_}
 use Prim.Native.Nat.{ℕ, suc, pred, _+_, _*_, _/_, _%_, _≤_, _<_}
 use native.Mathlib.Omega.{arith}
@@ -10,16 +10,14 @@ use native.Mathlib.Decide.{ℕ-discrete}
 use lib.Dec.{eqb}
 use lib.ListN.{length}
 use borrow.Author.Tests.{eqb-true, eq-eqb, ne-eqb}
-use Rattle.laws.specs.Choose.{choose, _and_}
+use Rattle.laws.specs.Choose.{choose}
 use Rattle.laws.proofs.Choose.{choose-cases, and-both, never, tested, if-yes, if-no}
 use Rattle.rules.specs.declared.Call.{Call}
-use Rattle.rules.specs.declared.Call.the-variants.{Obtain, Release}
 use Rattle.rules.specs.declared.Task.{Task}
-use Rattle.rules.specs.declared.Wait.{Wait}
 use Rattle.rules.specs.Numbers.{isBinary}
-use Rattle.rules.specs.Machine.{Slot, Tables, slotOf, taskOf, waits, isLive, idOf, names}
-use Rattle.rules.specs.Agreement.{Agrees, agrees}
-use Rattle.rules.specs.Calls.{Outcome, obtain, release, perform, step}
+use Rattle.rules.specs.Machine.{Tables, slotOf, waits, isLive, idOf, names}
+use Rattle.rules.specs.Agreement.{Agrees}
+use Rattle.rules.specs.Calls.{Outcome, perform, step}
 use Rattle.rules.specs.Promises.{kindOf}
 use Rattle.rules.proofs.Invariants.Agreeing.{agrees-true}
 use Rattle.rules.proofs.Invariants.Facts.{nthTask, nthSlot, Facts, live-within}
@@ -28,14 +26,12 @@ use Rattle.rules.proofs.Invariants.Links.{SameWait}
 use Rattle.rules.proofs.Invariants.PartsKept.{below}
 use Rattle.rules.proofs.History.Forward.{Forward}
 use Rattle.rules.proofs.History.CallsForward.{step-forward}
-use Rattle.rules.proofs.History.Used.{Used, Ended, Named, names-named, named-names, ended-unnamed, used-stays, ended-stays}
+use Rattle.rules.proofs.History.Used.{Used, Named, names-named, named-names, ended-unnamed, used-stays, ended-stays}
 use Rattle.rules.proofs.History.Done.{id-parts}
 use Rattle.sections.specs.Scripts.{Script, sectionAt}
 use Rattle.sections.specs.Run.{Place, at, callerOf, obtainerOf, said, placeAfter}
 use Rattle.sections.proofs.Others.{SameHold, Watched, Got, Woken, Handed, Observed, handedTo}
 use Rattle.sections.proofs.Observing.{observed}
-use Rattle.sections.proofs.Callers.{Holds, Obtained, obtained, Released, released}
-use Rattle.sections.proofs.Callers.Obtained.{refusing, taking, waiting}
 
 -- an identifier that once named a semaphore; while it names one, that is binary
 pub record Guard (t : Tables) (y : ℕ) : Type 0 where

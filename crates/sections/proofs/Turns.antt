@@ -1,8 +1,6 @@
 -- A script task's own obtain and release keep how it stands in its script.
 use mathlib.Core.Path.{_≡_, refl, sym, subst, ap, _∙_}
 use mathlib.Core.Bool.{true, false}
-use mathlib.Core.List.{List, []}
-use mathlib.Core.Logic.{_⊎_, inl, inr, ⊎-elim, _≢_}
 use Prim.Native.Nat.{ℕ, suc, pred, _+_, _*_, _/_, _%_, _≤_, _<_}
 use native.Mathlib.Omega.{arith}
 use native.Mathlib.Decide.{ℕ-discrete}
@@ -15,8 +13,8 @@ use Rattle.rules.specs.declared.Call.the-variants.{Obtain, Release}
 use Rattle.rules.specs.declared.Task.{Task}
 use Rattle.rules.specs.declared.Wait.{Wait}
 use Rattle.rules.specs.Numbers.{isBinary}
-use Rattle.rules.specs.Machine.{Slot, Tables, slotOf, waits, isLive, idOf, names}
-use Rattle.rules.specs.Calls.{Outcome, obtain, release, perform}
+use Rattle.rules.specs.Machine.{Slot, Tables, slotOf, waits, idOf, names}
+use Rattle.rules.specs.Calls.{Outcome, obtain, release}
 use Rattle.rules.specs.Promises.{kindOf}
 use Rattle.rules.proofs.Invariants.Facts.{nthTask, nthSlot, Facts}
 use Rattle.rules.proofs.History.Used.{Named, names-named}

@@ -4,19 +4,17 @@ use mathlib.Core.List.{List, [], _∷_, _++_}
 use Prim.Native.Nat.{ℕ}
 use lib.ListN.{replicate, take}
 use Rattle.laws.specs.Rows.{tabulate, rows}
-use Rattle.rules.specs.declared.Call.{Call}
-use Rattle.rules.specs.declared.Call.the-variants.{Create, Delete, Obtain, Release, Flush, Tick}
+use Rattle.rules.specs.declared.Call.the-variants.{Create, Delete, Tick}
 use Rattle.rules.specs.declared.Answer.{Answer}
 use Rattle.rules.specs.Machine.{Tables}
 use Rattle.rules.specs.Promises.{kindOf}
-use Rattle.rules.specs.Runs.{Request}
-use Rattle.rules.proofs.Asking.{startWith, obtains, tablesOf, answersOf, says}
-use Rattle.sections.specs.Scripts.{Step, Section, Script, Memory, Grant, indexOf, doStep, doSteps, plain}
-use Rattle.sections.specs.Scripts.Step.{Load, Store, Set, Add, NoStep}
-use Rattle.sections.specs.Run.{Event, Place, at, State, ask, said, called, actOf, acted, eventOf, runFrom, openOf}
+use Rattle.rules.proofs.Asking.{startWith, tablesOf, answersOf, says}
+use Rattle.sections.specs.Scripts.{Section, Script, Grant, indexOf, doStep, doSteps, plain}
+use Rattle.sections.specs.Scripts.Step.{Load, Store, Set, Add}
+use Rattle.sections.specs.Run.{Event, Place, at, ask, said, called, actOf, acted, eventOf, runFrom, openOf}
 use Rattle.sections.specs.Run.Event.{Turn, Other, NoEvent}
 use Rattle.sections.specs.Refusals.{Input, limitsFit, stepsFit, oneScriptEach, refusal, atFirst, run}
-use Rattle.sections.specs.History.{Shown, answersIn, history, grantsShown}
+use Rattle.sections.specs.History.{answersIn, history, grantsShown}
 
 -- what a run gives, shown by its parts: the first locals of tasks 1 and 2 alone
 record Seen : Type 0 where

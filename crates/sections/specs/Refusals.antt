@@ -7,10 +7,9 @@ use lib.ListN.{length, getD, replicate}
 use Rattle.laws.specs.Choose.{choose, _and_, isnt}
 use Rattle.laws.specs.All.{all}
 use Rattle.rules.specs.declared.Answer.{Answer}
-use Rattle.rules.specs.Numbers.{within, isBinary, successful, invalidId, notDefined, internalError}
+use Rattle.rules.specs.Numbers.{within, isBinary, invalidId, notDefined, internalError}
 use Rattle.rules.specs.Machine.{Tables, taskOf, slotOf, waits, names, next}
 use Rattle.rules.specs.Agreement.{agrees}
-use Rattle.rules.specs.Runs.{Request}
 use Rattle.rules.specs.Fits.{fits, callFits}
 use Rattle.sections.specs.Scripts.{Step, Section, Script, Memory, scriptAt, sectionAt, indexOf}
 use Rattle.sections.specs.Scripts.Step.{Load, Store, Set, Add, NoStep}
