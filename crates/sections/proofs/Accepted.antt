@@ -9,7 +9,7 @@ use lib.Dec.{eqb}
 use lib.ListN.{length, getD, length-replicate}
 use borrow.Author.Tests.{eqb-true, leb-true}
 use Rattle.laws.specs.Choose.{choose, _and_}
-use Rattle.laws.proofs.Choose.{and-both, never, isnt-false}
+use Rattle.laws.proofs.Choose.{and-both, never, isnt-false, or-either}
 use Rattle.laws.proofs.All.{all-at}
 use Rattle.laws.proofs.Fit.{getD-same}
 use Rattle.rules.specs.Machine.{Tables, taskOf, slotOf, waits}
@@ -27,14 +27,16 @@ use Rattle.sections.proofs.Finishing.{times, finish}
 use Rattle.sections.proofs.Serial.{closed}
 use Rattle.sections.proofs.Kept.{OfSection, Fixed, Sound}
 use Rattle.sections.proofs.Events.{event-next}
+use Rattle.rules.proofs.Invariants.Lists.{bit-no}
 
 -- N tasks are at most 32
 few-tasks : (t : Tables) → Agrees t → length (t .tasks) ≤ 32
 unfolding sizesFit
 few-tasks t a =
-    ⊎-elim (λ (z : (eqb (length (t .tasks)) 0 and eqb (length (t .slots)) 0) ≡ true). let n : length (t .tasks) ≡ 0 = eqb-true _ _ (and-both _ _ z .0) in omega arith)
+    ⊎-elim (λ (z : (eqb (length (t .tasks)) 0 and eqb (length (t .slots)) 0) ≡ true). let n : length (t .tasks) ≡ 0 = eqb-true _ _
+    (and-both _ _ z .0) in omega arith)
     (λ z. leb-true _ _ (and-both _ _ (and-both _ _ z .0) .1))
-    (Rattle.laws.proofs.Choose.or-either _ _ (a .sizes))
+    (or-either _ _ (a .sizes))
 
 pub record Accepted (t : Tables) (w : Input) (events : List Event) : Type 0 where
   pub agreeing : Agrees t
@@ -107,7 +109,8 @@ module _ (t : Tables) (w : Input) (events : List Event) (passed : refusal t w ev
         single = λ i h. eqb-true _ _ (all-at _ _ single-passed i h);
         tasks = task-first;
         small = λ i h. omega (arith, task-last i h, few-tasks t agreeing);
-        steps = λ i k h l. all-steps (w .ids) (idAt (scriptAt (w .scripts) i) k) (sectionAt (scriptAt (w .scripts) i) k .steps) (all-at _ _ (all-at _ _ (all-at _ _ steps-passed i h) k l));
+        steps = λ i k h l. all-steps (w .ids) (idAt (scriptAt (w .scripts) i) k) (sectionAt (scriptAt (w .scripts) i) k .steps)
+            (all-at _ _ (all-at _ _ (all-at _ _ steps-passed i h) k l));
         timeouts = λ i k h l. leb-true _ _ (all-at _ _ (all-at _ _ (and-both _ _ fits .0) i h) k l);
       }
 
@@ -125,7 +128,8 @@ module _ (t : Tables) (w : Input) (events : List Event) (passed : refusal t w ev
         serial =
             record {
               many = length-replicate (length (w .scripts)) (at 0 0);
-              counts = λ i h k l. sym (Rattle.rules.proofs.Invariants.Lists.bit-no _ (closed k (placeAt (atFirst t w) i) (ap (λ (p : Place). p .position) (begins i))));
+              counts = λ i h k l. sym (bit-no _
+                  (closed k (placeAt (atFirst t w) i) (ap (λ (p : Place). p .position) (begins i))));
               serial = refl;
             };
       }
@@ -135,7 +139,8 @@ module _ (t : Tables) (w : Input) (events : List Event) (passed : refusal t w ev
           record {
             within = λ z. absurd (omega arith);
             open′ = λ z. absurd (omega arith);
-            own = λ y g n e. let free : slotOf t (y % 65536) .owner ≡ 0 = eqb-true _ _ (and-both _ _ (and-both _ _ (guarded y g) .1) .1) in absurd (omega arith);
+            own = λ y g n e. let free : slotOf t (y % 65536) .owner ≡ 0 = eqb-true _ _ (and-both _ _ (and-both _ _ (guarded y g) .1) .1) in absurd
+                (omega arith);
             waits′ = λ z. never z (task-ready i h);
           }
 
@@ -152,7 +157,8 @@ module _ (t : Tables) (w : Input) (events : List Event) (passed : refusal t w ev
       }
 
 -- a run goes from sound states to sound states
-pub run-sound : (w : Input) → Fixed w → (s : State) → Sound w s → (events : List Event) → ((k : ℕ) → k < length events → isAllowed w (getD events k NoEvent) ≡ true)
+pub run-sound : (w : Input) → Fixed w → (s : State) → Sound w s → (events : List Event)
+    → ((k : ℕ) → k < length events → isAllowed w (getD events k NoEvent) ≡ true)
     → ((k : ℕ) → k < length events → eventFits (getD events k NoEvent) ≡ true) → Sound w (runFrom (w .scripts) s events)
 unfolding runFrom
 run-sound w F s S [] allowed fit = S

@@ -10,7 +10,7 @@ use lib.ListN.{length, getD, set}
 use lib.Seq.{getD-set-same, getD-set-other}
 use borrow.Author.Tests.{eqb-true, eqb-false, eq-eqb, ne-eqb, leb-true, le-ltb}
 use Rattle.laws.specs.Choose.{choose, _and_, isnt}
-use Rattle.laws.proofs.Choose.{choose-cases, and-both, both-and, never, if-yes, if-no, false-isnt, or-first}
+use Rattle.laws.proofs.Choose.{choose-cases, and-both, both-and, never, if-yes, if-no, false-isnt, or-first, isnt-false}
 use Rattle.rules.specs.declared.Task.{Task}
 use Rattle.rules.specs.declared.Wait.{Wait}
 use Rattle.rules.specs.Numbers.{isBinary, maximum, maxNumber}
@@ -20,7 +20,7 @@ use Rattle.rules.specs.Semaphore.{handed, ownedBy, polls, placeOf, Taken, takeS
 use Rattle.rules.specs.Calls.{Outcome, answered, refused, readied, blocked, wake, callerRefusal, anyCaller, taskOnly, obtainRefusal, obtain, releaseRefusal, release}
 use Rattle.rules.proofs.Invariants.Lists.{occurs-at, Updated, set-updated, updated-cases}
 use Rattle.rules.proofs.Invariants.Facts.{nthTask, nthSlot, Unheld, Held, Facts, live-within}
-use Rattle.rules.proofs.Invariants.Links.{nowhere}
+use Rattle.rules.proofs.Invariants.Links.{nowhere, place-of-id}
 use Rattle.rules.proofs.Invariants.PartsKept.{below}
 use Rattle.rules.proofs.Invariants.Refusals.{must, mustnt, Caller, task-only, Found, found}
 
@@ -43,7 +43,8 @@ module _ (t : Tables) (c x : ℕ) (wait : Wait) where
   -- what a step of the semaphore in slot j leads to
   abbrev outcome : ℕ → Taken → Outcome
   outcome n taken =
-      choose (eqb (taken .status) 100) (answered 100 0 (putTask (putSlot t n (taken .slot)) (suc c) (blocked (nthTask t c) x wait))) (answered 0 0 (putSlot t n (taken .slot)))
+      choose (eqb (taken .status) 100) (answered 100 0 (putTask (putSlot t n (taken .slot)) (suc c) (blocked (nthTask t c) x wait)))
+      (answered 0 0 (putSlot t n (taken .slot)))
 
   module _ (who : Caller t (suc c)) (j : ℕ) (l : isLive (nthSlot t j) ≡ true) (is : x ≡ idOf (suc j) (nthSlot t j)) where
     put : (s : Slot) → Updated (nthSlot t) (nthSlot (putSlot t (suc j) s)) j s
@@ -53,7 +54,8 @@ module _ (t : Tables) (c x : ℕ) (wait : Wait) where
     Leads taken = eqb (taken .status) 13 ≡ false → Obtained t c x (outcome (suc j) taken)
 
     took : (s : Slot) → s .live ≡ nthSlot t j .live → s .generation ≡ nthSlot t j .generation
-        → (isBinary (nthSlot t j .attributes) ≡ true → nthSlot t j .owner ≢ suc c → (s .owner ≡ suc c) × (s .nest ≡ 1)) → Leads (record { status = 0; slot = s })
+        → (isBinary (nthSlot t j .attributes) ≡ true → nthSlot t j .owner ≢ suc c → (s .owner ≡ suc c) × (s .nest ≡ 1))
+        → Leads (record { status = 0; slot = s })
     took s live g holds e =
         subst (Obtained t c x) (sym (if-no _ _ refl))
         (taking j refl l is refl
@@ -92,7 +94,8 @@ module _ (t : Tables) (c x : ℕ) (wait : Wait) where
       let named = must (names t x) (choose (eqb (taken (slotNamed t x) .status) 13) 13 0) 4 (omega arith) (who .1) in
       let granted = mustnt (eqb (taken (slotNamed t x) .status) 13) 13 0 (omega arith) (named .1) in
       let s = found t (f .sizes) x (named .0) in
-      subst (λ (n : ℕ). eqb (taken n .status) 13 ≡ false → Obtained t c x (outcome n (taken n))) (sym (s .number)) (take-leads (who .0) (s .place) (s .live) (s .is)) (granted .0))
+      subst (λ (n : ℕ). eqb (taken n .status) 13 ≡ false → Obtained t c x (outcome n (taken n))) (sym (s .number))
+      (take-leads (who .0) (s .place) (s .live) (s .is)) (granted .0))
       (λ z. refusing refl (eqb-false refusal 0 z) unlike)
     where
       taken : ℕ → Taken
@@ -123,7 +126,8 @@ pub record Released (t t′ : Tables) (c j : ℕ) : Type 0 where
 module _ (t : Tables) (f : Facts t) (c j : ℕ) (l : isLive (nthSlot t j) ≡ true) (b : isBinary (nthSlot t j .attributes) ≡ true) (holds : Holds t (suc c) j)
     (ready : waits (nthTask t c) ≡ false) where
   held : Held (length (t .tasks)) (nthSlot t j)
-  held = ⊎-elim (λ (u : Unheld (nthSlot t j)). absurd (omega (arith, u .owner, holds .owner))) (λ (h : Held (length (t .tasks)) (nthSlot t j)). h) (f .slots j .whenLive l .owned b)
+  held = ⊎-elim (λ (u : Unheld (nthSlot t j)). absurd (omega (arith, u .owner, holds .owner))) (λ (h : Held (length (t .tasks)) (nthSlot t j)). h)
+      (f .slots j .whenLive l .owned b)
 
   abbrev given-to : Given → Tables
   given-to g = choose (eqb (g .woken) 0) (putSlot t (suc j) (g .slot)) (wake (putSlot t (suc j) (g .slot)) (g .woken) 0)
@@ -135,13 +139,21 @@ module _ (t : Tables) (f : Facts t) (c j : ℕ) (l : isLive (nthSlot t j) ≡ tr
   owner-left : (s : Slot) → s .owner ≢ suc c → (k : ℕ) → nthSlot (putSlot t (suc j) s) k .owner ≡ suc c → (k ≢ j) × (nthSlot t k .owner ≡ suc c)
   owner-left s n k =
       elim (ℕ-discrete k j) [
-        | yes e ↦ (λ o. absurd (n (sym (ap (λ (z : Slot). z .owner) (subst (λ (m : ℕ). getD (set (t .slots) j s) m (freeSlot 0) ≡ s) (sym e) (getD-set-same (t .slots) j s (freeSlot 0) (live-within t j l)))) ∙ o)))
+        | yes e ↦ (λ o. absurd (n (sym
+            (ap (λ (z : Slot). z .owner) (subst (λ (m : ℕ). getD (set (t .slots) j s) m (freeSlot 0) ≡ s) (sym e)
+            (getD-set-same (t .slots) j s (freeSlot 0) (live-within t j l)))) ∙ o)))
         | no d ↦ (λ o. (d, sym (ap (λ (z : Slot). z .owner) (getD-set-other (t .slots) j k s (freeSlot 0) d)) ∙ o))
       ]
 
-  handed-on : (q : ℕ) → q ≡ getD (nthSlot t j .queue) 0 0 → 1 ≤ length (nthSlot t j .queue) → Gives (record { status = 0; slot = handed (nthSlot t j) q; woken = q })
+  handed-on : (q : ℕ) → q ≡ getD (nthSlot t j .queue) 0 0 → 1 ≤ length (nthSlot t j .queue)
+      → Gives (record { status = 0; slot = handed (nthSlot t j) q; woken = q })
   handed-on zero is h =
-      absurd (omega (arith, f .slots j .whenLive l .entries, subst (λ (q : ℕ). 1 ≤ occurs q (nthSlot t j .queue)) (sym is) (occurs-at (nthSlot t j .queue) 0 h)))
+      absurd (omega (
+        arith,
+        f .slots j .whenLive l .entries,
+        subst (λ (q : ℕ). 1 ≤ occurs q (nthSlot t j .queue)) (sym is)
+            (occurs-at (nthSlot t j .queue) 0 h),
+      ))
   handed-on (suc w) is h = (
     refl,
     subst (λ (z : Tables). Released t z c j) (sym (if-no _ _ (ne-eqb (suc w) 0 (omega arith))))
@@ -154,7 +166,8 @@ module _ (t : Tables) (f : Facts t) (c j : ℕ) (l : isLive (nthSlot t j) ≡ tr
       -- the owner does not stand in the queue
       apart : c ≢ w
       apart e =
-          let there : 1 ≤ occurs (suc w) (nthSlot t j .queue) = subst (λ (q : ℕ). 1 ≤ occurs q (nthSlot t j .queue)) (sym is) (occurs-at (nthSlot t j .queue) 0 h) in
+          let there : 1 ≤ occurs (suc w) (nthSlot t j .queue) = subst (λ (q : ℕ). 1 ≤ occurs q (nthSlot t j .queue)) (sym is)
+          (occurs-at (nthSlot t j .queue) 0 h) in
           omega (arith, subst (λ (k : ℕ). occurs (suc k) (nthSlot t j .queue) ≡ 0) e (nowhere (nthTask t) (nthSlot t) (below t f) (f .linked) c j ready l))
 
   give-gives : Gives (giveStep (nthSlot t j) (suc c))
@@ -166,14 +179,15 @@ module _ (t : Tables) (f : Facts t) (c j : ℕ) (l : isLive (nthSlot t j) ≡ tr
       (λ n. let two : 2 ≤ nthSlot t j .nest = leb-true _ _ (and-both _ _ n .1) in absurd (omega (arith, holds .nest)))
       (λ n. choose-cases Gives (leb 1 (length (nthSlot t j .queue))) _ _ (λ q. handed-on (getD (nthSlot t j .queue) 0 0) refl (leb-true _ _ q))
       (λ q. choose-cases Gives (eqb (nthSlot t j .count) (maximum (nthSlot t j .attributes))) _ _
-      (λ m. let top : maximum (nthSlot t j .attributes) ≡ 1 = if-yes _ _ (or-first _ _ b) in let full : nthSlot t j .count ≡ maximum (nthSlot t j .attributes) = eqb-true _ _ m in absurd (omega (arith, held .count)))
+      (λ m. let top : maximum (nthSlot t j .attributes) ≡ 1 = if-yes _ _ (or-first _ _ b) in let full : nthSlot t j .count ≡ maximum
+      (nthSlot t j .attributes) = eqb-true _ _ m in absurd (omega (arith, held .count)))
       (λ m. (refl, subst (λ (z : Tables). Released t z c j) (sym (if-yes _ _ refl)) (record { ready = ready; left = owner-left _ (λ o. omega arith) }))))))
     where
       own : ownedBy (nthSlot t j) (suc c) ≡ true
       own = both-and (eq-eqb _ _ (holds .owner)) (false-isnt _ (ne-eqb (suc c) 0 (omega arith)))
 
       isnt-own : isnt (ownedBy (nthSlot t j) (suc c)) ≡ true → ownedBy (nthSlot t j) (suc c) ≡ false
-      isnt-own = Rattle.laws.proofs.Choose.isnt-false _
+      isnt-own = isnt-false _
 
   pub released : (x : ℕ) → names t x ≡ true → x ≡ idOf (suc j) (nthSlot t j) → Released t (release t (suc c) x .tables) c j
   unfolding release releaseRefusal
@@ -195,7 +209,8 @@ module _ (t : Tables) (f : Facts t) (c j : ℕ) (l : isLive (nthSlot t j) ≡ tr
       number : slotNamed t x ≡ suc j
       number =
           let s : Found t x = found t (f .sizes) x n in
-          s .number ∙ ap suc (Rattle.rules.proofs.Invariants.Links.place-of-id (nthTask t) (nthSlot t) (below t f) (f .linked) (s .place) j (s .live) l (sym (s .is) ∙ is))
+          s .number ∙ ap suc (place-of-id (nthTask t) (nthSlot t) (below t f) (f .linked) (s .place) j (s .live) l
+          (sym (s .is) ∙ is))
 
       allowed : callerRefusal t (suc c) ≡ 0
       allowed = if-no _ _ (le-ltb (length (t .tasks)) (suc c) (subst (λ (q : ℕ). q ≤ length (t .tasks)) (holds .owner) (held .most))) ∙ if-no _ _ ready

@@ -9,7 +9,7 @@ use native.Mathlib.Decide.{ℕ-discrete, decLt}
 use lib.Dec.{leb, eqb}
 use lib.ListN.{length, length-append, List·getD-append, List·getD-eq-default}
 use lib.Seq.{getD-append-seam}
-use borrow.Author.Tests.{ne-eqb, leb-false}
+use borrow.Author.Tests.{ne-eqb, leb-false, eq-eqb}
 use Rattle.laws.specs.Choose.{choose, _or_, bit}
 use Rattle.laws.proofs.Choose.{choose-same, if-yes, if-no}
 use Rattle.laws.proofs.Fit.{getD-same}
@@ -32,7 +32,7 @@ use Rattle.sections.proofs.Accepted.{Accepted, accepted, run-sound}
 -- the list of events is run, or refused
 ran : (t : Tables) (w : Input) (events : List Event) → refusal t w events ≡ 0 → run t w events .state ≡ runFrom (w .scripts) (atFirst t w) events
 unfolding run
-ran t w events e = if-yes _ _ (borrow.Author.Tests.eq-eqb (refusal t w events) 0 e)
+ran t w events e = if-yes _ _ (eq-eqb (refusal t w events) 0 e)
 
 -- a refused run changes nothing: tables, cells and locals stay, places are at the start, no grant is reported; its answer is that of any refusal
 pub refused-keeps : (t : Tables) (w : Input) (events : List Event) → refusal t w events ≢ 0 → run t w events .state ≡ atFirst t w
@@ -43,7 +43,8 @@ pub refused-answer : (t : Tables) (w : Input) (events : List Event) → refusal 
     → run t w events .answer ≡ record { status = refusal t w events; value = 0; next = choose (eqb (refusal t w events) 25) 0 (next t) }
 unfolding run
 refused-answer t w events n =
-    ap (λ (s : State). record { status = refusal t w events; value = 0; next = choose (eqb (refusal t w events) 25) 0 (next (s .tables)) }) (if-no _ _ (ne-eqb (refusal t w events) 0 n))
+    ap (λ (s : State). record { status = refusal t w events; value = 0; next = choose (eqb (refusal t w events) 25) 0 (next (s .tables)) })
+    (if-no _ _ (ne-eqb (refusal t w events) 0 n))
 
 -- an empty list of events changes nothing
 pub empty-keeps : (t : Tables) (w : Input) → run t w [] .state ≡ atFirst t w
@@ -60,7 +61,9 @@ closed-serial w s S e =
     at-obtain : (i : ℕ) → placeAt s i .position ≡ 0
     at-obtain i =
         elim (decLt i (length (w .scripts))) [
-          | yes h ↦ let z : placeAt s i .position < 1 = leb-false 1 (placeAt s i .position) (rows-empty (length (w .scripts)) (λ i. leb 1 (placeAt s i .position)) (λ i. record { task = scriptAt (w .scripts) i .task; section = placeAt s i .section }) e i h) in omega arith
+          | yes h ↦ let z : placeAt s i .position < 1 = leb-false 1 (placeAt s i .position)
+              (rows-empty (length (w .scripts)) (λ i. leb 1 (placeAt s i .position))
+              (λ i. record { task = scriptAt (w .scripts) i .task; section = placeAt s i .section }) e i h) in omega arith
           | no n ↦ ap (λ (p : Place). p .position) (List·getD-eq-default (s .places) (at 0 0) (omega (arith, S .serial .many)))
         ]
 
@@ -109,7 +112,8 @@ module _ (t : Tables) (w : Input) (a b : List Event) (fits : inputFits w (a ++ b
   -- an open section's task owns the semaphore with nest 1
   pub open-owned : (i : ℕ) → i < length (w .scripts) → 1 ≤ placeAt reached i .position
       → let id = sectionAt (scriptAt (w .scripts) i) (placeAt reached i .section) .id in
-      (names (reached .tables) id ≡ true) × (slotOf (reached .tables) (id % 65536) .owner ≡ scriptAt (w .scripts) i .task) × (slotOf (reached .tables) (id % 65536) .nest ≡ 1)
+      (names (reached .tables) id ≡ true) × (slotOf (reached .tables) (id % 65536) .owner ≡ scriptAt (w .scripts) i .task)
+      × (slotOf (reached .tables) (id % 65536) .nest ≡ 1)
   open-owned i h o = let z = sound .stands i h .open′ o in (z .named, z .owner ∙ sym (numbered w (whole .fixed) i h), z .nest)
 
   -- at most one section is open for an identifier
@@ -142,7 +146,8 @@ grants-shown t w events fits passed =
     none-yet : (i : ℕ) → waits (taskOf t (scriptAt (w .scripts) i .task)) ≡ false
         → 0 ≡ placeAt (atFirst t w) i .section + bit (leb 1 (placeAt (atFirst t w) i .position) or waits (taskOf t (scriptAt (w .scripts) i .task)))
     none-yet i ready =
-        subst (λ (p : Place). 0 ≡ p .section + bit (leb 1 (p .position) or waits (taskOf t (scriptAt (w .scripts) i .task)))) (sym (getD-same (length (w .scripts)) (at 0 0) i))
+        subst (λ (p : Place). 0 ≡ p .section + bit (leb 1 (p .position) or waits (taskOf t (scriptAt (w .scripts) i .task))))
+        (sym (getD-same (length (w .scripts)) (at 0 0) i))
         (omega (arith, bit-no (leb 1 0 or waits (taskOf t (scriptAt (w .scripts) i .task))) (if-no true _ refl ∙ ready)))
 
 -- a run, refused or not, keeps agreement
@@ -151,6 +156,7 @@ run-agrees t w events fits agreeing =
     elim (ℕ-discrete (refusal t w events) 0) [
       | yes e ↦
           let a : Accepted t w events = accepted t w events e fits in
-          subst (λ (s : State). Agrees (s .tables)) (sym (ran t w events e)) (run-sound w (a .fixed) (atFirst t w) (a .first) events (a .allowed) (a .fit) .agrees′)
+          subst (λ (s : State). Agrees (s .tables)) (sym (ran t w events e))
+          (run-sound w (a .fixed) (atFirst t w) (a .first) events (a .allowed) (a .fit) .agrees′)
       | no n ↦ subst (λ (s : State). Agrees (s .tables)) (sym (refused-keeps t w events n)) agreeing
     ]

@@ -9,7 +9,7 @@ use native.Mathlib.Decide.{ℕ-discrete, decLt}
 use lib.Dec.{leb, eqb}
 use lib.ListN.{length, getD, set, drop, List·getD-eq-default}
 use lib.Seq.{getD-set-same, getD-set-other, set-getD}
-use borrow.Author.Tests.{eqb-true, eqb-false, ltb-true, ltb-false, leb-true, leb-false, le-leb}
+use borrow.Author.Tests.{eqb-true, eqb-false, ltb-true, ltb-false, leb-true, leb-false, le-leb, eq-eqb}
 use Rattle.laws.specs.Choose.{_or_}
 use Rattle.laws.proofs.Choose.{choose-cases, and-both, both-and, never, tested, isnt-false, or-first, or-second}
 use Rattle.rules.specs.declared.Call.{Call}
@@ -29,7 +29,7 @@ use Rattle.sections.specs.Scripts.Step.{NoStep}
 use Rattle.sections.specs.Run.{Event, Place, at, State, placeAt, moved, callerOf, said, placeAfter, called, Act, actOf, ask, acted, eventOf}
 use Rattle.sections.specs.Run.Act.{Steps}
 use Rattle.sections.specs.Run.Event.{Turn, Other, NoEvent}
-use Rattle.sections.specs.Refusals.{Input, isAllowed, eventFits}
+use Rattle.sections.specs.Refusals.{Input, isAllowed, eventFits, isStep}
 use Rattle.sections.proofs.Others.{handedTo}
 use Rattle.sections.proofs.Standing.{Owns, idAt, Stand, place-said}
 use Rattle.sections.proofs.Turns.{said-released, stand-obtain, stand-release}
@@ -80,7 +80,8 @@ module _ (w : Input) (F : Fixed w) (s : State) (S : Sound w s) where
   other-next r fits allowed =
       called-next w F s S (r .call) (r .priorities) fits (s .places) (λ i h. goes-seen w F s S (r .call) (r .priorities) i h (not-caller r allowed i h))
       (λ i k h l a b.
-      same-task i k h l (sym (granted-seen w F s S (r .call) (r .priorities) i h (not-caller r allowed i h) a) ∙ granted-seen w F s S (r .call) (r .priorities) k l (not-caller r allowed k l) b))
+      same-task i k h l (sym (granted-seen w F s S (r .call) (r .priorities) i h (not-caller r allowed i h) a)
+      ∙ granted-seen w F s S (r .call) (r .priorities) k l (not-caller r allowed k l) b))
 
   -- ---- a turn of script i
 
@@ -103,22 +104,29 @@ module _ (w : Input) (F : Fixed w) (s : State) (S : Sound w s) where
 
       -- the obtain
 
-      obtain-next : (wait : Wait) → waitFits wait ≡ true → p .position ≡ 0 → Next w s (called (w .scripts) (moved s i p (s .memory)) (ask (Obtain (task i) (section .id) wait)))
+      obtain-next : (wait : Wait) → waitFits wait ≡ true → p .position ≡ 0
+          → Next w s (called (w .scripts) (moved s i p (s .memory)) (ask (Obtain (task i) (section .id) wait)))
       unfolding perform
       obtain-next wait ticks first =
-          subst (λ (ps : List Place). Next w s (called (w .scripts) (record { tables = s .tables; memory = s .memory; places = ps; grants = s .grants }) (ask call))) (sym (set-getD (s .places) i (at 0 0)))
+          subst (λ (ps : List Place). Next w s
+          (called (w .scripts) (record { tables = s .tables; memory = s .memory; places = ps; grants = s .grants }) (ask call)))
+          (sym (set-getD (s .places) i (at 0 0)))
           (called-next w F s S call [] (both-and (le-leb _ _ (F .small i h)) (both-and (le-leb _ _ x-fits) ticks)) (s .places) goes
           (λ j k l m a b. only j l a ∙ sym (only k m b)))
         where
           call : Call
           call = Obtain (task i) (section .id) wait
 
-          stand-own : (q : ℕ) → q ≡ suc c → ((y : ℕ) → OfSection w y → names (obtain (s .tables) q (section .id) wait .tables) y ≡ true → names (s .tables) y ≡ true)
-              → Stand (OfSection w) (obtain (s .tables) q (section .id) wait .tables) script c (placeAfter (said (s .tables) (Obtain q (section .id) wait) (obtain (s .tables) q (section .id) wait) q) p)
+          stand-own : (q : ℕ) → q ≡ suc c
+              → ((y : ℕ) → OfSection w y → names (obtain (s .tables) q (section .id) wait .tables) y ≡ true → names (s .tables) y ≡ true)
+              → Stand (OfSection w) (obtain (s .tables) q (section .id) wait .tables) script c
+              (placeAfter (said (s .tables) (Obtain q (section .id) wait) (obtain (s .tables) q (section .id) wait) q) p)
           stand-own q e =
               subst (λ (q : ℕ). ((y : ℕ) → OfSection w y → names (obtain (s .tables) q (section .id) wait .tables) y ≡ true → names (s .tables) y ≡ true)
-              → Stand (OfSection w) (obtain (s .tables) q (section .id) wait .tables) script c (placeAfter (said (s .tables) (Obtain q (section .id) wait) (obtain (s .tables) q (section .id) wait) q) p)) (sym e)
-              (stand-obtain (OfSection w) (s .tables) (agrees-facts (s .tables) (S .agrees′)) (S .guards) script (own-ids w F i h) c p (S .stands i h) ready more wait first)
+              → Stand (OfSection w) (obtain (s .tables) q (section .id) wait .tables) script c
+              (placeAfter (said (s .tables) (Obtain q (section .id) wait) (obtain (s .tables) q (section .id) wait) q) p)) (sym e)
+              (stand-obtain (OfSection w) (s .tables) (agrees-facts (s .tables) (S .agrees′)) (S .guards) script (own-ids w F i h) c p
+              (S .stands i h) ready more wait first)
 
           own : Goes w F s S call [] i p
           own =
@@ -145,7 +153,8 @@ module _ (w : Input) (F : Fixed w) (s : State) (S : Sound w s) where
 
       -- the release
 
-      release-next : length (section .steps) < p .position → Next w s (called (w .scripts) (moved s i (at (suc (p .section)) 0) (s .memory)) (ask (Release (task i) (section .id))))
+      release-next : length (section .steps) < p .position
+          → Next w s (called (w .scripts) (moved s i (at (suc (p .section)) 0) (s .memory)) (ask (Release (task i) (section .id))))
       unfolding perform
       release-next done =
           called-next w F s S call [] (both-and (le-leb _ _ (F .small i h)) (le-leb _ _ x-fits)) (set (s .places) i (at (suc (p .section)) 0)) goes one
@@ -154,14 +163,17 @@ module _ (w : Input) (F : Fixed w) (s : State) (S : Sound w s) where
           call = Release (task i) (section .id)
 
           silent : said (s .tables) call (perform (s .tables) call []) (task i) ≡ 100
-          silent = ap (said (s .tables) call (perform (s .tables) call [])) (numbered w F i h) ∙ said-released (s .tables) c (task i) (section .id) (perform (s .tables) call []) ready
+          silent = ap (said (s .tables) call (perform (s .tables) call [])) (numbered w F i h)
+              ∙ said-released (s .tables) c (task i) (section .id) (perform (s .tables) call []) ready
 
-          stand-own : (q : ℕ) → q ≡ suc c → ((y : ℕ) → OfSection w y → names (release (s .tables) q (section .id) .tables) y ≡ true → names (s .tables) y ≡ true)
+          stand-own : (q : ℕ) → q ≡ suc c
+              → ((y : ℕ) → OfSection w y → names (release (s .tables) q (section .id) .tables) y ≡ true → names (s .tables) y ≡ true)
               → Stand (OfSection w) (release (s .tables) q (section .id) .tables) script c (at (suc (p .section)) 0)
           stand-own q e =
               subst (λ (q : ℕ). ((y : ℕ) → OfSection w y → names (release (s .tables) q (section .id) .tables) y ≡ true → names (s .tables) y ≡ true)
               → Stand (OfSection w) (release (s .tables) q (section .id) .tables) script c (at (suc (p .section)) 0)) (sym e)
-              (stand-release (OfSection w) (s .tables) (agrees-facts (s .tables) (S .agrees′)) (S .guards) script (own-ids w F i h) c p (S .stands i h) ready more (omega arith))
+              (stand-release (OfSection w) (s .tables) (agrees-facts (s .tables) (S .agrees′)) (S .guards) script (own-ids w F i h) c p
+              (S .stands i h) ready more (omega arith))
 
           passed : placeAfter (said (s .tables) call (perform (s .tables) call []) (task i)) (at (suc (p .section)) 0) ≡ at (suc (p .section)) 0
           passed = ap (λ (n : ℕ). placeAfter n (at (suc (p .section)) 0)) silent ∙ place-said (at (suc (p .section)) 0)
@@ -169,7 +181,8 @@ module _ (w : Input) (F : Fixed w) (s : State) (S : Sound w s) where
           own : Goes w F s S call [] i (at (suc (p .section)) 0)
           own =
               record {
-                stand = subst (Stand (OfSection w) (perform (s .tables) call [] .tables) script c) (sym passed) (stand-own (task i) (numbered w F i h) (back-of w F s S call []));
+                stand = subst (Stand (OfSection w) (perform (s .tables) call [] .tables) script c) (sym passed)
+                    (stand-own (task i) (numbered w F i h) (back-of w F s S call []));
                 move = passes passed (ap (λ (n : ℕ). eqb n 0) silent) (inr (omega arith));
                 same = λ e. never e (ap (λ (n : ℕ). eqb n 0) silent);
               }
@@ -179,7 +192,8 @@ module _ (w : Input) (F : Fixed w) (s : State) (S : Sound w s) where
               elim (ℕ-discrete j i) [
                 | yes e ↦ subst (λ (k : ℕ). Goes w F s S call [] k (getD (set (s .places) i (at (suc (p .section)) 0)) k (at 0 0))) (sym e)
                     (subst (Goes w F s S call [] i) (sym (getD-set-same (s .places) i (at (suc (p .section)) 0) (at 0 0) (omega (arith, S .serial .many)))) own)
-                | no n ↦ subst (Goes w F s S call [] j) (sym (getD-set-other (s .places) i j (at (suc (p .section)) 0) (at 0 0) n)) (goes-seen w F s S call [] j l (λ e. n (same-task j i l h e)))
+                | no n ↦ subst (Goes w F s S call [] j) (sym (getD-set-other (s .places) i j (at (suc (p .section)) 0) (at 0 0) n))
+                    (goes-seen w F s S call [] j l (λ e. n (same-task j i l h e)))
               ]
 
           handed : (j : ℕ) → j < N → said (s .tables) call (perform (s .tables) call []) (task j) ≡ 0 → handedTo (s .tables) call ≡ task j
@@ -189,12 +203,14 @@ module _ (w : Input) (F : Fixed w) (s : State) (S : Sound w s) where
                 | no n ↦ granted-seen w F s S call [] j l (λ e. n (same-task j i l h e)) a
               ]
 
-          one : (j k : ℕ) → j < N → k < N → said (s .tables) call (perform (s .tables) call []) (task j) ≡ 0 → said (s .tables) call (perform (s .tables) call []) (task k) ≡ 0 → j ≡ k
+          one : (j k : ℕ) → j < N → k < N → said (s .tables) call (perform (s .tables) call []) (task j) ≡ 0
+              → said (s .tables) call (perform (s .tables) call []) (task k) ≡ 0 → j ≡ k
           one j k l m a b = same-task j k l m (sym (handed j l a) ∙ handed k m b)
 
       -- a step
 
-      step-next : 1 ≤ p .position → p .position ≤ length (section .steps) → Next w s (acted (w .scripts) s i (Steps (getD (section .steps) (pred (p .position)) NoStep) (at (p .section) (suc (p .position)))))
+      step-next : 1 ≤ p .position → p .position ≤ length (section .steps)
+          → Next w s (acted (w .scripts) s i (Steps (getD (section .steps) (pred (p .position)) NoStep) (at (p .section) (suc (p .position)))))
       unfolding acted doSteps
       step-next inside last = record { sound = sound; granted = inl refl }
         where
@@ -216,7 +232,7 @@ module _ (w : Input) (F : Fixed w) (s : State) (S : Sound w s) where
           step : Step
           step = getD (section .steps) (pred (p .position)) NoStep
 
-          fits-step : Rattle.sections.specs.Refusals.isStep (w .ids) (section .id) step ≡ true
+          fits-step : isStep (w .ids) (section .id) step ≡ true
           fits-step = steps-at (w .ids) (section .id) (section .steps) (pred (p .position)) (F .steps i (p .section) h more) (omega arith)
 
           -- another open section: another task, and another identifier
@@ -224,7 +240,8 @@ module _ (w : Input) (F : Fixed w) (s : State) (S : Sound w s) where
           other-id j l n inside′ e =
               let mine : Owns (s .tables) (suc c) (section .id) = st .open′ inside in
               let its : Owns (s .tables) (suc (pred (task j))) (idAt (scriptAt (w .scripts) j) (placeAt s j .section)) = S .stands j l .open′ inside′ in
-              let same : slotOf (s .tables) (section .id % 65536) .owner ≡ suc (pred (task j)) = subst (λ (y : ℕ). slotOf (s .tables) (y % 65536) .owner ≡ suc (pred (task j))) (sym e) (its .owner) in
+              let same : slotOf (s .tables) (section .id % 65536) .owner ≡ suc (pred (task j)) = subst
+              (λ (y : ℕ). slotOf (s .tables) (y % 65536) .owner ≡ suc (pred (task j))) (sym e) (its .owner) in
               n (same-task j i l h (numbered w F j l ∙ sym same ∙ mine .owner ∙ sym (numbered w F i h)))
 
           commutes : (g : Grant) → g ≢ grantOf (w .scripts) i (p .section) → (k : Memory)
@@ -235,7 +252,8 @@ module _ (w : Input) (F : Fixed w) (s : State) (S : Sound w s) where
               (λ o.
               elim (decLt j N) [
                 | yes l ↦ inside-other l (eqb-true _ _ (and-both _ _ o .0)) (leb-true _ _ (and-both _ _ o .1))
-                | no out ↦ never (and-both _ _ o .1) (ap (λ (q : Place). leb 1 (q .position)) (List·getD-eq-default (s .places) (at 0 0) (omega (arith, S .serial .many))))
+                | no out ↦ never (and-both _ _ o .1)
+                    (ap (λ (q : Place). leb 1 (q .position)) (List·getD-eq-default (s .places) (at 0 0) (omega (arith, S .serial .many))))
               ])
               (λ o. refl)
             where
@@ -256,7 +274,9 @@ module _ (w : Input) (F : Fixed w) (s : State) (S : Sound w s) where
                   its = index-task (g .task) (w .scripts) l
 
                   other : j ≢ i
-                  other z = n (grant-is g (grantOf (w .scripts) i (p .section)) (both-and (borrow.Author.Tests.eq-eqb _ _ (sym its ∙ ap task z)) (borrow.Author.Tests.eq-eqb _ _ (e ∙ ap (λ (m : ℕ). placeAt s m .section) z))))
+                  other z = n (grant-is g (grantOf (w .scripts) i (p .section))
+                      (both-and (eq-eqb _ _ (sym its ∙ ap task z))
+                      (eq-eqb _ _ (e ∙ ap (λ (m : ℕ). placeAt s m .section) z))))
 
                   one-more : pred (task i) ≡ pred (g .task) → g .task ≡ task i
                   one-more z = sym its ∙ numbered w F j l ∙ ap suc (ap pred its ∙ sym z) ∙ sym (numbered w F i h)
@@ -270,8 +290,10 @@ module _ (w : Input) (F : Fixed w) (s : State) (S : Sound w s) where
                 stands = λ j l.
                     elim (ℕ-discrete j i) [
                       | yes e ↦ subst (λ (k : ℕ). Stand (OfSection w) (s .tables) (scriptAt (w .scripts) k) (pred (task k)) (getD places k (at 0 0))) (sym e)
-                          (subst (Stand (OfSection w) (s .tables) script c) (sym (getD-set-same (s .places) i _ (at 0 0) (omega (arith, S .serial .many)))) further)
-                      | no n ↦ subst (Stand (OfSection w) (s .tables) (scriptAt (w .scripts) j) (pred (task j))) (sym (getD-set-other (s .places) i j _ (at 0 0) n)) (S .stands j l)
+                          (subst (Stand (OfSection w) (s .tables) script c)
+                          (sym (getD-set-same (s .places) i _ (at 0 0) (omega (arith, S .serial .many)))) further)
+                      | no n ↦ subst (Stand (OfSection w) (s .tables) (scriptAt (w .scripts) j) (pred (task j)))
+                          (sym (getD-set-other (s .places) i j _ (at 0 0) n)) (S .stands j l)
                     ];
                 serial = step-taken (w .scripts) (F .single) (w .memory) s (S .serial) i h inside last commutes;
               }
@@ -284,7 +306,8 @@ module _ (w : Input) (F : Fixed w) (s : State) (S : Sound w s) where
         let ready : waits (taskOf (s .tables) (task i)) ≡ false = not-first _ _ e in
         let more : p .section < length (script .sections) = leb-false _ _ (not-second _ _ e) in
         choose-cases Q _ _ _
-        (λ z. obtain-next ready more (waitOf (section .options) (section .timeout)) (wait-fits (section .options) (section .timeout) (F .timeouts i (p .section) h more)) (eqb-true _ _ z))
+        (λ z. obtain-next ready more (waitOf (section .options) (section .timeout))
+        (wait-fits (section .options) (section .timeout) (F .timeouts i (p .section) h more)) (eqb-true _ _ z))
         (λ z.
         let some : p .position ≢ 0 = eqb-false _ _ z in
         choose-cases Q _ _ _

@@ -41,7 +41,8 @@ unfolding plain finish
 plain-finish scripts [] m = refl
 plain-finish scripts (g ∷ gs) m = plain-finish scripts gs (doSteps (g .task) (stepsOf scripts g) m)
 
-pub finish-append : (rest : Grant → List Step) (gs : List Grant) (h : Grant) (m : Memory) → finish rest (gs ++ h ∷ []) m ≡ doSteps (h .task) (rest h) (finish rest gs m)
+pub finish-append : (rest : Grant → List Step) (gs : List Grant) (h : Grant) (m : Memory)
+    → finish rest (gs ++ h ∷ []) m ≡ doSteps (h .task) (rest h) (finish rest gs m)
 unfolding finish
 finish-append rest [] h m = refl
 finish-append rest (g ∷ gs) h m = finish-append rest gs h (doSteps (g .task) (rest g) m)
@@ -63,7 +64,8 @@ module _ (rest rest′ : Grant → List Step) where
   -- a step of one granted section goes before all that is left
   module _ (g : Grant) (step : Step) (first : (m : Memory) → doSteps (g .task) (rest g) m ≡ doSteps (g .task) (rest′ g) (doStep (g .task) step m))
       (same : (h : Grant) → h ≢ g → rest h ≡ rest′ h)
-      (commutes : (h : Grant) → h ≢ g → (m : Memory) → doSteps (h .task) (rest h) (doStep (g .task) step m) ≡ doStep (g .task) step (doSteps (h .task) (rest h) m)) where
+      (commutes : (h : Grant) → h ≢ g → (m : Memory)
+      → doSteps (h .task) (rest h) (doStep (g .task) step m) ≡ doStep (g .task) step (doSteps (h .task) (rest h) m)) where
     pub finish-step : (gs : List Grant) (m : Memory) → times g gs ≡ 1 → finish rest gs m ≡ finish rest′ gs (doStep (g .task) step m)
     unfolding finish times
     finish-step [] m once = absurd (omega arith)
@@ -71,7 +73,8 @@ module _ (rest rest′ : Grant → List Step) where
       where
         here : isGrant g h ≡ true → finish rest gs (doSteps (h .task) (rest h) m) ≡ finish rest′ gs (doSteps (h .task) (rest′ h) (doStep (g .task) step m))
         here e =
-            subst (λ (k : Grant). finish rest gs (doSteps (k .task) (rest k) m) ≡ finish rest′ gs (doSteps (k .task) (rest′ k) (doStep (g .task) step m))) (grant-is g h e)
+            subst (λ (k : Grant). finish rest gs (doSteps (k .task) (rest k) m) ≡ finish rest′ gs (doSteps (k .task) (rest′ k) (doStep (g .task) step m)))
+            (grant-is g h e)
             (ap (finish rest gs) (first m)
             ∙ finish-same gs (doSteps (g .task) (rest′ g) (doStep (g .task) step m))
             (λ k n. same k (λ (z : k ≡ g). let some : 1 ≤ times g gs = subst (λ (l : Grant). 1 ≤ times l gs) z n in omega (arith, bit-yes _ e))))

@@ -13,6 +13,7 @@ use Rattle.laws.proofs.Choose.{and-both}
 use Rattle.sections.specs.Scripts.{Step, Memory, doStep, doSteps}
 use Rattle.sections.specs.Scripts.Step.{Load, Store, Set, Add, NoStep}
 use Rattle.sections.specs.Refusals.{isStep}
+use lib.Dec.{ltb}
 
 -- a cell, or a local of some task, by its place in the memory
 data Location : Type 0 where
@@ -86,7 +87,7 @@ record Touches (ids : List ℕ) (x q : ℕ) (s : Step) : Type 0 where
   two : Own ids x q (second q s)
 
 module _ (ids : List ℕ) (x q : ℕ) where
-  within : (l : ℕ) → lib.Dec.ltb l 8 ≡ true → Own ids x q (Local (pred q * 8 + l))
+  within : (l : ℕ) → ltb l 8 ≡ true → Own ids x q (Local (pred q * 8 + l))
   within l e = let h : l < 8 = ltb-true l 8 e in (omega arith, omega arith)
 
   touches : (s : Step) → isStep ids x s ≡ true → Touches ids x q s
@@ -125,7 +126,8 @@ drop-steps ids x (suc n) (s ∷ ss) a = drop-steps ids x n ss (a .1)
 
 module _ (ids : List ℕ) (x y q r : ℕ) (other : x ≢ y) (others : pred q ≢ pred r) where
   steps-commute : (a b : Step) (m : Memory) → isStep ids x a ≡ true → isStep ids y b ≡ true → doStep q a (doStep r b m) ≡ doStep r b (doStep q a m)
-  steps-commute a b m e f = late ∙ write-comm m (target r b) (target q a) vb va (λ z. apart ids x y q r (target q a) (target r b) other others (A .to) (B .to) (sym z)) ∙ sym early
+  steps-commute a b m e f = late
+      ∙ write-comm m (target r b) (target q a) vb va (λ z. apart ids x y q r (target q a) (target r b) other others (A .to) (B .to) (sym z)) ∙ sym early
     where
       A : Touches ids x q a
       A = touches ids x q a e
@@ -157,7 +159,8 @@ module _ (ids : List ℕ) (x y q r : ℕ) (other : x ≢ y) (others : pred q ≢
           (read-other m (target q a) (second r b) va (apart ids y x r q (second r b) (target q a) (swap other) (swap others) (B .two) (A .to)))
 
   -- a step before or after a list of steps
-  pub step-commutes : (a : Step) (bs : List Step) (m : Memory) → isStep ids x a ≡ true → AllSteps ids y bs → doSteps r bs (doStep q a m) ≡ doStep q a (doSteps r bs m)
+  pub step-commutes : (a : Step) (bs : List Step) (m : Memory) → isStep ids x a ≡ true → AllSteps ids y bs
+      → doSteps r bs (doStep q a m) ≡ doStep q a (doSteps r bs m)
   unfolding doSteps
   step-commutes a [] m e f = refl
   step-commutes a (b ∷ bs) m e f = ap (doSteps r bs) (sym (steps-commute a b m e (f .0))) ∙ step-commutes a bs (doStep r b m) e (f .1)

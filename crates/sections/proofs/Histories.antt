@@ -15,7 +15,7 @@ use Rattle.laws.proofs.Choose.{choose-cases, never, or-first, or-second}
 use Rattle.rules.specs.declared.Call.{Call}
 use Rattle.rules.specs.declared.Call.the-variants.{Obtain, Release}
 use Rattle.rules.specs.declared.Wait.{Wait}
-use Rattle.rules.specs.Machine.{Tables, taskOf, waits}
+use Rattle.rules.specs.Machine.{Tables, taskOf, waits, names}
 use Rattle.rules.specs.Semaphore.{waitOf}
 use Rattle.rules.specs.Calls.{obtain, release, perform}
 use Rattle.rules.specs.Runs.{Request}
@@ -51,7 +51,8 @@ module _ (w : Input) (F : Fixed w) (s : State) (S : Sound w s) (obtains : ℕ �
   tells-seen call priorities i h n =
       tells w s obtains C call priorities i h
       (waits-seen w F s S call priorities i h n
-      ∙ ap (λ (b : Bool). choose (eqb (said (s .tables) call (perform (s .tables) call priorities) (task i)) 100) b false) (sym (or-no _ _ (silent-seen w F s S call priorities i h n))))
+      ∙ ap (λ (b : Bool). choose (eqb (said (s .tables) call (perform (s .tables) call priorities) (task i)) 100) b false)
+      (sym (or-no _ _ (silent-seen w F s S call priorities i h n))))
       (λ e. never e (silent-seen w F s S call priorities i h n)) (first-seen w F s S call priorities i h n)
 
   other-reads : (r : Request) → isAllowed w (Other r) ≡ true → Reads w obtains s (called (w .scripts) s r) (shownCall (s .tables) r)
@@ -72,10 +73,14 @@ module _ (w : Input) (F : Fixed w) (s : State) (S : Sound w s) (obtains : ℕ �
     c = pred (task i)
 
     module _ (ready : waits (taskOf (s .tables) (task i)) ≡ false) (more : p .section < length (script .sections)) where
-      obtain-reads : (wait : Wait) → p .position ≡ 0 → Reads w obtains s (called (w .scripts) (moved s i p (s .memory)) (ask (Obtain (task i) (section .id) wait))) (shownCall (s .tables) (ask (Obtain (task i) (section .id) wait)))
+      obtain-reads : (wait : Wait) → p .position ≡ 0
+          → Reads w obtains s (called (w .scripts) (moved s i p (s .memory)) (ask (Obtain (task i) (section .id) wait)))
+          (shownCall (s .tables) (ask (Obtain (task i) (section .id) wait)))
       unfolding perform kindOf choose
       obtain-reads wait first =
-          subst (λ (ps : List Place). Reads w obtains s (called (w .scripts) (record { tables = s .tables; memory = s .memory; places = ps; grants = s .grants }) (ask call)) (shownCall (s .tables) (ask call))) (sym (set-getD (s .places) i (at 0 0)))
+          subst (λ (ps : List Place). Reads w obtains s
+          (called (w .scripts) (record { tables = s .tables; memory = s .memory; places = ps; grants = s .grants }) (ask call))
+          (shownCall (s .tables) (ask call))) (sym (set-getD (s .places) i (at 0 0)))
           (called-reads w s obtains C call [] (s .places)
           (λ j l.
           elim (ℕ-discrete j i) [
@@ -89,10 +94,14 @@ module _ (w : Input) (F : Fixed w) (s : State) (S : Sound w s) (obtains : ℕ �
           mine : eqb (obtainerOf call) (task i) ≡ true
           mine = eq-eqb (task i) (task i) refl
 
-          waits-own : (q : ℕ) → q ≡ suc c → waits (taskOf (obtain (s .tables) q (section .id) wait .tables) (suc c)) ≡ eqb (said (s .tables) (Obtain q (section .id) wait) (obtain (s .tables) q (section .id) wait) (suc c)) 100
+          waits-own : (q : ℕ) → q ≡ suc c
+              → waits (taskOf (obtain (s .tables) q (section .id) wait .tables) (suc c)) ≡ eqb
+              (said (s .tables) (Obtain q (section .id) wait) (obtain (s .tables) q (section .id) wait) (suc c)) 100
           waits-own q e =
-              subst (λ (q : ℕ). waits (taskOf (obtain (s .tables) q (section .id) wait .tables) (suc c)) ≡ eqb (said (s .tables) (Obtain q (section .id) wait) (obtain (s .tables) q (section .id) wait) (suc c)) 100) (sym e)
-              (own-waits (s .tables) c (section .id) (obtain (s .tables) (suc c) (section .id) wait) ready (obtained (s .tables) c (section .id) wait (agrees-facts (s .tables) (S .agrees′)))
+              subst (λ (q : ℕ). waits (taskOf (obtain (s .tables) q (section .id) wait .tables) (suc c)) ≡ eqb
+              (said (s .tables) (Obtain q (section .id) wait) (obtain (s .tables) q (section .id) wait) (suc c)) 100) (sym e)
+              (own-waits (s .tables) c (section .id) (obtain (s .tables) (suc c) (section .id) wait) ready
+              (obtained (s .tables) c (section .id) wait (agrees-facts (s .tables) (S .agrees′)))
               ∙ ap (λ (n : ℕ). eqb n 100) (sym (said-own (s .tables) c (section .id) wait (obtain (s .tables) (suc c) (section .id) wait) ready)))
 
           own : Tells w s obtains C call [] i p
@@ -100,57 +109,81 @@ module _ (w : Input) (F : Fixed w) (s : State) (S : Sound w s) (obtains : ℕ �
               tells w s obtains C call [] i h
               (waits-own (task i) (numbered w F i h) ∙ ap (λ (q : ℕ). eqb (said (s .tables) call (perform (s .tables) call []) q) 100) (sym (numbered w F i h))
               ∙ is-bit (eqb (said (s .tables) call (perform (s .tables) call []) (task i)) 100)
-              ∙ ap (λ (b : Bool). choose (eqb (said (s .tables) call (perform (s .tables) call []) (task i)) 100) b false) (sym (or-second (waits (taskOf (s .tables) (task i))) _ mine)))
+              ∙ ap (λ (b : Bool). choose (eqb (said (s .tables) call (perform (s .tables) call []) (task i)) 100) b false)
+              (sym (or-second (waits (taskOf (s .tables) (task i))) _ mine)))
               (λ e. (ready, first)) (λ n. first)
             where
               is-bit : (b : Bool) → b ≡ choose b true false
               is-bit b = choose-cases (λ (z : Bool). b ≡ z) b true false (λ e. e) (λ e. e)
 
-      release-reads : length (section .steps) < p .position → Reads w obtains s (called (w .scripts) (moved s i (at (suc (p .section)) 0) (s .memory)) (ask (Release (task i) (section .id)))) (shownCall (s .tables) (ask (Release (task i) (section .id))))
+      release-reads : length (section .steps) < p .position
+          → Reads w obtains s (called (w .scripts) (moved s i (at (suc (p .section)) 0) (s .memory)) (ask (Release (task i) (section .id))))
+          (shownCall (s .tables) (ask (Release (task i) (section .id))))
       unfolding perform kindOf choose
       release-reads done =
           called-reads w s obtains C call [] (set (s .places) i (at (suc (p .section)) 0))
           (λ j l.
           elim (ℕ-discrete j i) [
             | yes e ↦ subst (λ (k : ℕ). Tells w s obtains C call [] k (getD (set (s .places) i (at (suc (p .section)) 0)) k (at 0 0))) (sym e)
-                (subst (Tells w s obtains C call [] i) (sym (getD-set-same (s .places) i (at (suc (p .section)) 0) (at 0 0) (omega (arith, S .serial .many)))) own)
-            | no n ↦ subst (Tells w s obtains C call [] j) (sym (getD-set-other (s .places) i j (at (suc (p .section)) 0) (at 0 0) n)) (tells-seen call [] j l (λ e. n (same-task w F s S j i l h e)))
+                (subst (Tells w s obtains C call [] i)
+                (sym (getD-set-same (s .places) i (at (suc (p .section)) 0) (at 0 0) (omega (arith, S .serial .many)))) own)
+            | no n ↦ subst (Tells w s obtains C call [] j) (sym (getD-set-other (s .places) i j (at (suc (p .section)) 0) (at 0 0) n))
+                (tells-seen call [] j l (λ e. n (same-task w F s S j i l h e)))
           ])
         where
           call : Call
           call = Release (task i) (section .id)
 
           silent : said (s .tables) call (perform (s .tables) call []) (task i) ≡ 100
-          silent = ap (said (s .tables) call (perform (s .tables) call [])) (numbered w F i h) ∙ said-released (s .tables) c (task i) (section .id) (perform (s .tables) call []) ready
+          silent = ap (said (s .tables) call (perform (s .tables) call [])) (numbered w F i h)
+              ∙ said-released (s .tables) c (task i) (section .id) (perform (s .tables) call []) ready
 
           passed : placeAfter (said (s .tables) call (perform (s .tables) call []) (task i)) (at (suc (p .section)) 0) ≡ at (suc (p .section)) 0
           passed = ap (λ (n : ℕ). placeAfter n (at (suc (p .section)) 0)) silent ∙ place-said (at (suc (p .section)) 0)
 
-          rests : (q : ℕ) → q ≡ suc c → ((y : ℕ) → OfSection w y → Rattle.rules.specs.Machine.names (release (s .tables) q (section .id) .tables) y ≡ true → Rattle.rules.specs.Machine.names (s .tables) y ≡ true)
+          rests : (q : ℕ) → q ≡ suc c → ((y : ℕ) → OfSection w y → names (release (s .tables) q (section .id) .tables) y ≡ true
+              → names (s .tables) y ≡ true)
               → waits (taskOf (release (s .tables) q (section .id) .tables) (suc c)) ≡ false
           rests q e =
-              subst (λ (q : ℕ). ((y : ℕ) → OfSection w y → Rattle.rules.specs.Machine.names (release (s .tables) q (section .id) .tables) y ≡ true → Rattle.rules.specs.Machine.names (s .tables) y ≡ true)
+              subst (λ (q : ℕ). ((y : ℕ) → OfSection w y → names (release (s .tables) q (section .id) .tables) y ≡ true
+              → names (s .tables) y ≡ true)
               → waits (taskOf (release (s .tables) q (section .id) .tables) (suc c)) ≡ false) (sym e)
-              (λ back. given-up (OfSection w) (s .tables) (agrees-facts (s .tables) (S .agrees′)) (S .guards) script (own-ids w F i h) c p (S .stands i h) ready more (omega arith) back .ready)
+              (λ back. given-up (OfSection w) (s .tables) (agrees-facts (s .tables) (S .agrees′)) (S .guards) script (own-ids w F i h) c p
+              (S .stands i h) ready more (omega arith) back .ready)
 
           own : Tells w s obtains C call [] i (at (suc (p .section)) 0)
           own =
               record {
                 granted = λ e. absurd (omega (arith, silent));
                 counts =
-                    let inside : bit (leb 1 (p .position) or waits (taskOf (s .tables) (task i))) ≡ 1 = bit-yes _ (or-first _ _ (le-leb 1 (p .position) (omega arith))) in
-                    subst (λ (q : Place). countedOn obtains (obtainerOf call) (task i) ≡ q .section + bit (leb 1 (q .position) or waits (taskOf (perform (s .tables) call [] .tables) (task i)))) (sym passed)
-                    (omega (arith, C .each i h, bit-no (eqb 0 (task i)) (ne-eqb 0 (task i) (λ (e : 0 ≡ task i). omega (arith, F .tasks i h))), bit-no (waits (taskOf (perform (s .tables) call [] .tables) (task i))) (rests (task i) (numbered w F i h) (back-of w F s S call []))));
+                    let inside : bit (leb 1 (p .position) or waits (taskOf (s .tables) (task i))) ≡ 1 = bit-yes _
+                    (or-first _ _ (le-leb 1 (p .position) (omega arith))) in
+                    subst (λ (q : Place). countedOn obtains (obtainerOf call) (task i) ≡ q .section + bit
+                    (leb 1 (q .position) or waits (taskOf (perform (s .tables) call [] .tables) (task i)))) (sym passed)
+                    (omega (
+                      arith,
+                      C .each i h,
+                      bit-no (eqb 0 (task i)) (ne-eqb 0 (task i) (λ (e : 0 ≡ task i). omega (arith, F .tasks i h))),
+                      bit-no
+                          (waits (taskOf (perform (s .tables) call [] .tables) (task i))) (rests (task i) (numbered w F i h) (back-of w F s S call [])),
+                    ));
               }
 
-      step-reads : 1 ≤ p .position → Reads w obtains s (acted (w .scripts) s i (Steps (getD (section .steps) (pred (p .position)) NoStep) (at (p .section) (suc (p .position))))) shownNone
+      step-reads : 1 ≤ p .position → Reads w obtains s
+          (acted (w .scripts) s i (Steps (getD (section .steps) (pred (p .position)) NoStep) (at (p .section) (suc (p .position))))) shownNone
       unfolding acted
       step-reads inside =
-          quiet-reads w s obtains C (F .tasks) (acted (w .scripts) s i (Steps (getD (section .steps) (pred (p .position)) NoStep) (at (p .section) (suc (p .position))))) refl refl
+          quiet-reads w s obtains C (F .tasks)
+          (acted (w .scripts) s i (Steps (getD (section .steps) (pred (p .position)) NoStep) (at (p .section) (suc (p .position))))) refl refl
           (λ j l.
           elim (ℕ-discrete j i) [
-            | yes e ↦ subst (λ (k : ℕ). Same k) (sym e) (ap (λ (q : Place). q .section) here, ap (λ (q : Place). leb 1 (q .position)) here ∙ le-leb 1 (suc (p .position)) (omega arith) ∙ sym (le-leb 1 (p .position) inside))
-            | no n ↦ let there = getD-set-other (s .places) i j (at (p .section) (suc (p .position))) (at 0 0) n in (ap (λ (q : Place). q .section) there, ap (λ (q : Place). leb 1 (q .position)) there)
+            | yes e ↦ subst (λ (k : ℕ). Same k) (sym e) (
+              ap (λ (q : Place). q .section) here,
+              ap (λ (q : Place). leb 1 (q .position)) here ∙ le-leb 1 (suc (p .position)) (omega arith)
+                  ∙ sym (le-leb 1 (p .position) inside),
+            )
+            | no n ↦ let there = getD-set-other (s .places) i j (at (p .section) (suc (p .position)))
+                (at 0 0) n in (ap (λ (q : Place). q .section) there, ap (λ (q : Place). leb 1 (q .position)) there)
           ])
         where
           places : List Place
@@ -206,6 +239,7 @@ run-reads w F s S obtains C (e ∷ es) allowed fit =
     let r : Reads w obtains s u (shownAt (w .scripts) s e) = event-reads w F s S obtains C e (allowed 0 (omega arith)) in
     run-reads w F u (event-next w F s S e (fit 0 (omega arith)) (allowed 0 (omega arith)) .sound) (countedOn obtains (h .obtainer)) (r .counts) es
     (λ k h. allowed (suc k) (omega arith)) (λ k h. fit (suc k) (omega arith))
-    ∙ ap (λ (before : List ℕ). u .grants ++ grantsShown (w .scripts) (countedOn obtains (h .obtainer)) before (history (w .scripts) u es)) (sym (event-answers (w .scripts) s e (answersIn (u .tables))))
+    ∙ ap (λ (before : List ℕ). u .grants ++ grantsShown (w .scripts) (countedOn obtains (h .obtainer)) before (history (w .scripts) u es))
+    (sym (event-answers (w .scripts) s e (answersIn (u .tables))))
     ∙ ap (λ (gs : List Grant). gs ++ grantsShown (w .scripts) (countedOn obtains (h .obtainer)) (h .answers) (history (w .scripts) u es)) (r .grants)
     ∙ append-assoc (s .grants) _ _

@@ -44,7 +44,8 @@ module _ {A : Type 0} where
       ap (λ (l : List A). l ++ rows (tabulate n (λ i. choose (b (suc i)) (g (suc i) ∷ []) []))) (if-no (g 0 ∷ []) [] (f 0 (omega arith)))
       ∙ rows-none n (λ i. b (suc i)) (λ i. g (suc i)) (λ i h. f (suc i) (omega arith))
 
-  pub rows-one : (n : ℕ) (b : ℕ → Bool) (g : ℕ → A) (k : ℕ) → k < n → b k ≡ true → ((i : ℕ) → i < n → b i ≡ true → i ≡ k) → rows (tabulate n (λ i. choose (b i) (g i ∷ []) [])) ≡ g k ∷ []
+  pub rows-one : (n : ℕ) (b : ℕ → Bool) (g : ℕ → A) (k : ℕ) → k < n → b k ≡ true → ((i : ℕ) → i < n → b i ≡ true → i ≡ k)
+      → rows (tabulate n (λ i. choose (b i) (g i ∷ []) [])) ≡ g k ∷ []
   unfolding rows tabulate
   rows-one zero b g k h e f = absurd (not-suc-le-zero h)
   rows-one (suc n) b g zero h e f =
@@ -66,7 +67,8 @@ module _ {A : Type 0} where
       rest = rows (tabulate n (λ i. choose (b (suc i)) (g (suc i) ∷ []) []))
 
       full : choose (b 0) (g 0 ∷ []) [] ++ rest ≡ [] → b 0 ≡ true → b i ≡ false
-      full z t = let y : g 0 ∷ rest ≡ [] = subst (λ (l : List A). l ++ rest ≡ []) (if-yes (g 0 ∷ []) [] t) z in let x : _≡_ {A = ℕ} 0 1 = cc in absurd (omega arith)
+      full z t = let y : g 0 ∷ rest ≡ [] = subst (λ (l : List A). l ++ rest ≡ []) (if-yes (g 0 ∷ []) [] t) z in let x : _≡_ {A = ℕ} 0 1 = cc in absurd
+          (omega arith)
 
       later : (rest ≡ [] → (i : ℕ) → i < n → b (suc i) ≡ false) → b 0 ≡ false → (i : ℕ) → i < suc n → b i ≡ false
       later rec t zero l = t

@@ -15,7 +15,7 @@ use Rattle.laws.proofs.Choose.{choose-cases, if-yes, if-no}
 use Rattle.laws.proofs.Fit.{length-tabulate, getD-tabulate, tabulate-same}
 use Rattle.rules.specs.declared.Call.{Call}
 use Rattle.rules.specs.Numbers.{maxNumber}
-use Rattle.rules.specs.Machine.{Tables, waits}
+use Rattle.rules.specs.Machine.{Tables, waits, names}
 use Rattle.rules.specs.Agreement.{Agrees}
 use Rattle.rules.specs.Calls.{Outcome, perform}
 use Rattle.rules.specs.Fits.{callFits}
@@ -49,14 +49,16 @@ pub record Fixed (w : Input) : Type 0 where
   pub small : (i : ℕ) → i < length (w .scripts) → scriptAt (w .scripts) i .task ≤ maxNumber
   pub steps : (i k : ℕ) → i < length (w .scripts) → k < length (scriptAt (w .scripts) i .sections)
       → AllSteps (w .ids) (idAt (scriptAt (w .scripts) i) k) (sectionAt (scriptAt (w .scripts) i) k .steps)
-  pub timeouts : (i k : ℕ) → i < length (w .scripts) → k < length (scriptAt (w .scripts) i .sections) → sectionAt (scriptAt (w .scripts) i) k .timeout ≤ maxNumber
+  pub timeouts : (i k : ℕ) → i < length (w .scripts) → k < length (scriptAt (w .scripts) i .sections)
+      → sectionAt (scriptAt (w .scripts) i) k .timeout ≤ maxNumber
 
 -- and of a state that a run comes to
 pub record Sound (w : Input) (s : State) : Type 0 where
   pub agrees′ : Agrees (s .tables)
   pub started : 1 ≤ length (w .scripts) → 1 ≤ length (s .tables .tasks)
   pub guards : (y : ℕ) → OfSection w y → Guard (s .tables) y
-  pub stands : (i : ℕ) → i < length (w .scripts) → Stand (OfSection w) (s .tables) (scriptAt (w .scripts) i) (pred (scriptAt (w .scripts) i .task)) (placeAt s i)
+  pub stands : (i : ℕ) → i < length (w .scripts)
+      → Stand (OfSection w) (s .tables) (scriptAt (w .scripts) i) (pred (scriptAt (w .scripts) i .task)) (placeAt s i)
   pub serial : Serial (w .scripts) (w .memory) s
 
 -- one event grants at most one section
@@ -118,7 +120,7 @@ module _ (w : Input) (F : Fixed w) where
     some : {i : ℕ} → i < N → 1 ≤ length (t .tasks)
     some h = S .started (omega arith)
 
-    pub back-of : (y : ℕ) → OfSection w y → Rattle.rules.specs.Machine.names (o .tables) y ≡ true → Rattle.rules.specs.Machine.names t y ≡ true
+    pub back-of : (y : ℕ) → OfSection w y → names (o .tables) y ≡ true → names t y ≡ true
     back-of y g = back t (S .agrees′) call priorities (some (g .low)) y (S .guards y g)
 
     -- ---- a script whose task did not make the call
@@ -163,7 +165,8 @@ module _ (w : Input) (F : Fixed w) where
       pub waits-seen : waits (nthTask (o .tables) (c i)) ≡ choose (eqb (answer i) 100) (waits (nthTask t (c i))) false
       waits-seen =
           ⊎-elim
-          (λ (z : SameWait (nthTask t (c i)) (nthTask (o .tables) (c i))). ap (λ (n : ℕ). eqb n 100) (z .answer) ∙ sym (if-yes _ _ (eq-eqb (answer i) 100 (same-said z))))
+          (λ (z : SameWait (nthTask t (c i)) (nthTask (o .tables) (c i))). ap (λ (n : ℕ). eqb n 100) (z .answer)
+          ∙ sym (if-yes _ _ (eq-eqb (answer i) 100 (same-said z))))
           (λ (z : Woken t (o .tables) (c i) (handedTo t call)).
           z .ready ∙ sym (if-no _ _ (ne-eqb (answer i) 100 (λ e. unlike (nthTask (o .tables) (c i)) (z .ready) (sym (woken-said z) ∙ e)))))
           (seen .task)
@@ -182,7 +185,8 @@ module _ (w : Input) (F : Fixed w) where
     pub goes-seen : (i : ℕ) → i < N → task i ≢ callerOf call → Goes i (placeAt s i)
     goes-seen i h n = record { stand = stand-seen i h n; move = move-said _ (answer i) (placeAt s i) (first-seen i h n); same = λ e. refl }
 
-    module _ (fits : callFits call ≡ true) (ps : List Place) (goes : (i : ℕ) → i < N → Goes i (getD ps i (at 0 0))) (sole : (i k : ℕ) → i < N → k < N → answer i ≡ 0 → answer k ≡ 0 → i ≡ k) where
+    module _ (fits : callFits call ≡ true) (ps : List Place) (goes : (i : ℕ) → i < N → Goes i (getD ps i (at 0 0)))
+        (sole : (i k : ℕ) → i < N → k < N → answer i ≡ 0 → answer k ≡ 0 → i ≡ k) where
       abbrev before : State
       before = record { tables = t; memory = s .memory; places = ps; grants = s .grants }
 
@@ -195,13 +199,15 @@ module _ (w : Input) (F : Fixed w) where
           record {
             agrees′ = subst (λ (z : Outcome). Agrees (z .tables)) (performs t call priorities (S .agrees′)) (kept t call priorities fits (S .agrees′));
             started = λ h.
-                let size : length (o .tables .tasks) ≡ length (t .tasks) = observed t facts (callerOf call) call priorities (S .started h) (λ e. omega arith) .size in
+                let size : length (o .tables .tasks) ≡ length (t .tasks) = observed t facts (callerOf call) call priorities (S .started h)
+                (λ e. omega arith) .size in
                 let was : 1 ≤ length (t .tasks) = S .started h in
                 omega arith;
             guards = λ y g. guard-kept t (S .agrees′) call priorities (some (g .low)) y (S .guards y g);
             stands = λ i h. subst (Stand (OfSection w) (o .tables) (script i) (c i)) (sym (place i h)) (goes i h .stand);
             serial = all-moved (w .scripts) (F .single) (w .memory) s (S .serial) after refl (length-tabulate N _) (λ i. eqb (answer i) 0)
-                (λ i h. subst (λ (p : Place). Move (sectionAt (script i) (placeAt s i .section) .steps) (placeAt s i) p (eqb (answer i) 0)) (sym (place i h)) (goes i h .move))
+                (λ i h. subst (λ (p : Place). Move (sectionAt (script i) (placeAt s i .section) .steps) (placeAt s i) p (eqb (answer i) 0)) (sym (place i h))
+                (goes i h .move))
                 (ap (λ (gs : List (List Grant)). s .grants ++ rows gs) (tabulate-same N _ _ grants))
                 (λ i k h l a b. sole i k h l (eqb-true _ _ a) (eqb-true _ _ b));
           }
@@ -209,7 +215,8 @@ module _ (w : Input) (F : Fixed w) where
           place : (i : ℕ) → i < N → placeAt after i ≡ placeAfter (answer i) (getD ps i (at 0 0))
           place i h = getD-tabulate N (λ i. placeAfter (answer i) (getD ps i (at 0 0))) i (at 0 0) h
 
-          grants : (i : ℕ) → i < N → grantIf (eqb (answer i) 0) (task i) (getD ps i (at 0 0) .section) ≡ grantIf (eqb (answer i) 0) (task i) (placeAt s i .section)
+          grants : (i : ℕ) → i < N → grantIf (eqb (answer i) 0) (task i) (getD ps i (at 0 0) .section) ≡ grantIf (eqb (answer i) 0) (task i)
+              (placeAt s i .section)
           grants i h =
               choose-cases (λ (gs : List Grant). gs ≡ grantIf (eqb (answer i) 0) (task i) (placeAt s i .section)) (eqb (answer i) 0) _ []
               (λ e. ap (λ (k : ℕ). record { task = task i; section = k } ∷ []) (goes i h .same e) ∙ sym (if-yes _ _ e))
@@ -225,7 +232,8 @@ module _ (w : Input) (F : Fixed w) where
             ap (λ (gs : List Grant). s .grants ++ gs) (rows-one N (λ i. eqb (answer i) 0) granted (k .0) (k .1) (k .2)
                 (λ i h e. sole i (k .0) h (k .1) (eqb-true _ _ e) (eqb-true _ _ (k .2)))),
           ))
-          (λ (f : (i : ℕ) → i < N → eqb (answer i) 0 ≡ false). inl (ap (λ (gs : List Grant). s .grants ++ gs) (rows-none N (λ i. eqb (answer i) 0) granted f) ∙ append-nil (s .grants)))
+          (λ (f : (i : ℕ) → i < N → eqb (answer i) 0 ≡ false). inl
+          (ap (λ (gs : List Grant). s .grants ++ gs) (rows-none N (λ i. eqb (answer i) 0) granted f) ∙ append-nil (s .grants)))
           (some-or-none N (λ i. eqb (answer i) 0))
         where
           granted : ℕ → Grant

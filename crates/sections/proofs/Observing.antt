@@ -16,7 +16,7 @@ use Rattle.rules.specs.declared.Call.{Call}
 use Rattle.rules.specs.declared.Call.the-variants.{Start, Create, Ident, Delete, Obtain, Release, Flush, Tick}
 use Rattle.rules.specs.declared.Task.{Task}
 use Rattle.rules.specs.declared.Wait.{Wait}
-use Rattle.rules.specs.Numbers.{isBinary, maximum}
+use Rattle.rules.specs.Numbers.{isBinary, maximum, allowed, isSimple}
 use Rattle.rules.specs.Machine.{Slot, Tables, noTask, freeSlot, taskOf, slotOf, putSlot, putTask, waits, isLive, idOf, names, slotNamed, urgency}
 use Rattle.rules.specs.Agreement.{occurs}
 use Rattle.rules.specs.Semaphore.{handed, ownedBy, placeOf, Taken, takeStep, Given, giveStep, passStep, flushStep}
@@ -35,7 +35,8 @@ module _ (t : Tables) (f : Facts t) (i : ℕ) where
   -- a live binary semaphore with a unit left is nobody's
   pub unheld : (j : ℕ) → isLive (nthSlot t j) ≡ true → isBinary (nthSlot t j .attributes) ≡ true → 1 ≤ nthSlot t j .count → nthSlot t j .owner ≡ 0
   unheld j l b h =
-      ⊎-elim (λ (u : Unheld (nthSlot t j)). u .owner) (λ (z : Held (length (t .tasks)) (nthSlot t j)). absurd (omega (arith, z .count))) (f .slots j .whenLive l .owned b)
+      ⊎-elim (λ (u : Unheld (nthSlot t j)). u .owner) (λ (z : Held (length (t .tasks)) (nthSlot t j)). absurd (omega (arith, z .count)))
+      (f .slots j .whenLive l .owned b)
 
   -- ---- start and create
 
@@ -52,8 +53,8 @@ module _ (t : Tables) (f : Facts t) (i : ℕ) where
       (λ e.
       let who = task-only t caller _ e in
       let named = mustnt (eqb name 0) 3 _ (omega arith) (who .1) in
-      let right = must (Rattle.rules.specs.Numbers.allowed attributes) _ 11 (omega arith) (named .1) in
-      let small = mustnt ((isBinary attributes or Rattle.rules.specs.Numbers.isSimple attributes) and leb 2 count) 10 _ (omega arith) (right .1) in
+      let right = must (allowed attributes) _ 11 (omega arith) (named .1) in
+      let small = mustnt ((isBinary attributes or isSimple attributes) and leb 2 count) 10 _ (omega arith) (right .1) in
       let room = mustnt (eqb (openSlot t) 0) 5 0 (omega arith) (small .1) in
       let some : openSlot t ≡ 0 → ⊥ = eqb-false _ _ (room .0) in
       opened (openSlot t) (first-free (t .slots) 0 (omega arith)))
@@ -83,12 +84,14 @@ module _ (t : Tables) (f : Facts t) (i : ℕ) where
       let named = must (names t id) _ 4 (omega arith) (who .1) in
       let free = mustnt (isBinary (slotOf t (slotNamed t id) .attributes) and isnt (eqb (slotOf t (slotNamed t id) .owner) 0)) 12 0 (omega arith) (named .1) in
       let s = found t (f .sizes) id (named .0) in
-      subst (λ (n : ℕ). (isBinary (slotOf t n .attributes) and isnt (eqb (slotOf t n .owner) 0)) ≡ false → Observed t (freed n) i 0) (sym (s .number)) (ended (s .place) (s .live)) (free .0))
+      subst (λ (n : ℕ). (isBinary (slotOf t n .attributes) and isnt (eqb (slotOf t n .owner) 0)) ≡ false → Observed t (freed n) i 0) (sym (s .number))
+      (ended (s .place) (s .live)) (free .0))
     where
       freed : ℕ → Tables
       freed n = wakeAll (putSlot t n (freeSlot (slotOf t n .generation))) (slotOf t n .queue) 7
 
-      ended : (j : ℕ) → isLive (nthSlot t j) ≡ true → (isBinary (nthSlot t j .attributes) and isnt (eqb (nthSlot t j .owner) 0)) ≡ false → Observed t (freed (suc j)) i 0
+      ended : (j : ℕ) → isLive (nthSlot t j) ≡ true → (isBinary (nthSlot t j .attributes) and isnt (eqb (nthSlot t j .owner) 0)) ≡ false
+          → Observed t (freed (suc j)) i 0
       ended j l e =
           observed-emptied t f j (freeSlot (nthSlot t j .generation)) 7 i 0 l refl (omega arith)
           (λ H. record {
@@ -100,7 +103,8 @@ module _ (t : Tables) (f : Facts t) (i : ℕ) where
   flush-observed : (caller id : ℕ) → Observed t (flush t caller id .tables) i 0
   unfolding flush flushRefusal flushStep
   flush-observed caller id =
-      observed-unless t i 0 (flushRefusal t caller id) (answered 0 0 (wakeAll (putSlot t (slotNamed t id) (flushStep (slotOf t (slotNamed t id)))) (slotOf t (slotNamed t id) .queue) 13))
+      observed-unless t i 0 (flushRefusal t caller id)
+      (answered 0 0 (wakeAll (putSlot t (slotNamed t id) (flushStep (slotOf t (slotNamed t id)))) (slotOf t (slotNamed t id) .queue) 13))
       (λ e.
       let named = must (names t id) 0 4 (omega arith) (any-caller t caller _ e) in
       let s = found t (f .sizes) id (named .0) in
@@ -114,7 +118,9 @@ module _ (t : Tables) (f : Facts t) (i : ℕ) where
   tick-observed =
       record {
         size = length-map (t .tasks) ticked;
-        task = ⊎-elim (λ (e : expires (nthTask t i) ≡ true). inr (timed-out e)) (λ (e : expires (nthTask t i) ≡ false). inl (subst (SameWait (nthTask t i)) (sym task-after) (ticked-same (nthTask t i) e))) (tested (expires (nthTask t i)));
+        task = ⊎-elim (λ (e : expires (nthTask t i) ≡ true). inr (timed-out e))
+            (λ (e : expires (nthTask t i) ≡ false). inl (subst (SameWait (nthTask t i)) (sym task-after) (ticked-same (nthTask t i) e)))
+            (tested (expires (nthTask t i)));
         slots = λ j. subst (Watched (suc i) (Handed t (tick t .tables) i j) (nthSlot t j)) (sym (slot-after j)) (watched-same _ _ refl refl refl refl refl);
       }
     where
@@ -135,7 +141,8 @@ module _ (t : Tables) (f : Facts t) (i : ℕ) where
   -- ---- obtain by another
 
   module _ (c : ℕ) (other : suc i ≢ c) where
-    taken-watched : {H : Type 0} (j place : ℕ) (wait : Wait) → isLive (nthSlot t j) ≡ true → Watched (suc i) H (nthSlot t j) (takeStep (nthSlot t j) c place wait .slot)
+    taken-watched : {H : Type 0} (j place : ℕ) (wait : Wait) → isLive (nthSlot t j) ≡ true
+        → Watched (suc i) H (nthSlot t j) (takeStep (nthSlot t j) c place wait .slot)
     unfolding takeStep
     taken-watched {H} j place wait l =
         choose-cases P _ _ _
@@ -173,7 +180,8 @@ module _ (t : Tables) (f : Facts t) (i : ℕ) where
 
         outcome : ℕ → Outcome
         outcome n =
-            choose (eqb (taken n .status) 100) (answered 100 0 (putTask (putSlot t n (taken n .slot)) c (blocked (taskOf t c) id wait))) (answered 0 0 (putSlot t n (taken n .slot)))
+            choose (eqb (taken n .status) 100) (answered 100 0 (putTask (putSlot t n (taken n .slot)) c (blocked (taskOf t c) id wait)))
+            (answered 0 0 (putSlot t n (taken n .slot)))
 
         at : (j : ℕ) → isLive (nthSlot t j) ≡ true → (d : ℕ) → d ≡ c → 1 ≤ d → Observed t (outcome (suc j) .tables) i 0
         at j l zero same first = absurd (omega arith)
@@ -183,13 +191,15 @@ module _ (t : Tables) (f : Facts t) (i : ℕ) where
             record {
               size = length-set (t .tasks) (pred c) (blocked (taskOf t c) id wait);
               task = inl (same-wait (getD-set-other (t .tasks) (pred c) i (blocked (taskOf t c) id wait) noTask apart));
-              slots = put-watched t (putTask (putSlot t (suc j) (taken (suc j) .slot)) c (blocked (taskOf t c) id wait)) i j (taken (suc j) .slot) (live-within t j l) refl (taken-watched j (placeOf (urgency t) (nthSlot t j) c) wait l);
+              slots = put-watched t (putTask (putSlot t (suc j) (taken (suc j) .slot)) c (blocked (taskOf t c) id wait)) i j (taken (suc j) .slot)
+                  (live-within t j l) refl (taken-watched j (placeOf (urgency t) (nthSlot t j) c) wait l);
             })
             (λ e.
             record {
               size = refl;
               task = inl (same-wait refl);
-              slots = put-watched t (putSlot t (suc j) (taken (suc j) .slot)) i j (taken (suc j) .slot) (live-within t j l) refl (taken-watched j (placeOf (urgency t) (nthSlot t j) c) wait l);
+              slots = put-watched t (putSlot t (suc j) (taken (suc j) .slot)) i j (taken (suc j) .slot) (live-within t j l) refl
+                  (taken-watched j (placeOf (urgency t) (nthSlot t j) c) wait l);
             })
           where
             apart : i ≢ pred c
@@ -205,7 +215,8 @@ module _ (t : Tables) (f : Facts t) (i : ℕ) where
     Sees g = g .status ≡ 0 → Observed t (given-to g) i (g .woken)
 
     -- not 23: a binary semaphore that is given is the caller's
-    not-mine : (isBinary (nthSlot t j .attributes) and isnt (ownedBy (nthSlot t j) c)) ≡ false → isBinary (nthSlot t j .attributes) ≡ true → nthSlot t j .owner ≡ suc i → ⊥
+    not-mine : (isBinary (nthSlot t j .attributes) and isnt (ownedBy (nthSlot t j) c)) ≡ false → isBinary (nthSlot t j .attributes) ≡ true
+        → nthSlot t j .owner ≡ suc i → ⊥
     not-mine e b o =
         ⊎-elim (λ (y : ownedBy (nthSlot t j) c ≡ true). other (sym o ∙ eqb-true _ _ (and-both _ _ y .0)))
         (λ (n : ownedBy (nthSlot t j) c ≡ false). never (both-and b (false-isnt _ n)) e)
@@ -217,10 +228,16 @@ module _ (t : Tables) (f : Facts t) (i : ℕ) where
         subst (λ (z : Tables). Observed t z i 0) (sym (if-yes _ _ refl))
         (record { size = refl; task = inl (same-wait refl); slots = put-watched t (putSlot t (suc j) s) i j s (live-within t j l) refl (w _) })
 
-    handed-on : (isBinary (nthSlot t j .attributes) and isnt (ownedBy (nthSlot t j) c)) ≡ false → (q : ℕ) → q ≡ getD (nthSlot t j .queue) 0 0 → 1 ≤ length (nthSlot t j .queue)
+    handed-on : (isBinary (nthSlot t j .attributes) and isnt (ownedBy (nthSlot t j) c)) ≡ false → (q : ℕ) → q ≡ getD (nthSlot t j .queue) 0 0
+        → 1 ≤ length (nthSlot t j .queue)
         → Sees (record { status = 0; slot = handed (nthSlot t j) q; woken = q })
     handed-on mine zero is h e =
-        absurd (omega (arith, f .slots j .whenLive l .entries, subst (λ (q : ℕ). 1 ≤ occurs q (nthSlot t j .queue)) (sym is) (occurs-at (nthSlot t j .queue) 0 h)))
+        absurd (omega (
+          arith,
+          f .slots j .whenLive l .entries,
+          subst (λ (q : ℕ). 1 ≤ occurs q (nthSlot t j .queue)) (sym is)
+              (occurs-at (nthSlot t j .queue) 0 h),
+        ))
     handed-on mine (suc w) is h e =
         subst (λ (z : Tables). Observed t z i (suc w)) (sym (if-no _ _ (ne-eqb (suc w) 0 (omega arith))))
         (record {
@@ -233,7 +250,9 @@ module _ (t : Tables) (f : Facts t) (i : ℕ) where
               (record {
                 attributes = λ a m g. refl;
                 keeps = λ a b o. absurd (not-mine mine b o);
-                gains = λ a b m o. let s : suc w ≡ suc i = sym (if-yes _ _ b) ∙ o in let z : i ≡ w = omega arith in inr (subst (λ (k : ℕ). waitsOn (nthTask t k) (idOf (suc j) (nthSlot t j)) ≡ true) (sym z) there, ap (λ (v : Task). v .answer) (after z));
+                gains = λ a b m o. let s : suc w ≡ suc i = sym (if-yes _ _ b)
+                    ∙ o in let z : i ≡ w = omega arith in inr
+                    (subst (λ (k : ℕ). waitsOn (nthTask t k) (idOf (suc j) (nthSlot t j)) ≡ true) (sym z) there, ap (λ (v : Task). v .answer) (after z));
               });
         })
       where
@@ -241,10 +260,12 @@ module _ (t : Tables) (f : Facts t) (i : ℕ) where
         t′ = wake (putSlot t (suc j) (handed (nthSlot t j) (suc w))) (suc w) 0
 
         there : waitsOn (nthTask t w) (idOf (suc j) (nthSlot t j)) ≡ true
-        there = waits-there (nthTask t) (nthSlot t) (below t f) (f .linked) w j l (subst (λ (q : ℕ). 1 ≤ occurs q (nthSlot t j .queue)) (sym is) (occurs-at (nthSlot t j .queue) 0 h))
+        there = waits-there (nthTask t) (nthSlot t) (below t f) (f .linked) w j l
+            (subst (λ (q : ℕ). 1 ≤ occurs q (nthSlot t j .queue)) (sym is) (occurs-at (nthSlot t j .queue) 0 h))
 
         after : i ≡ w → nthTask t′ i ≡ readied (nthTask t w) 0
-        after s = subst (λ (k : ℕ). nthTask t′ k ≡ readied (nthTask t w) 0) (sym s) (getD-set-same (t .tasks) w (readied (nthTask t w) 0) noTask (waits-within t w (and-both _ _ there .0)))
+        after s = subst (λ (k : ℕ). nthTask t′ k ≡ readied (nthTask t w) 0) (sym s)
+            (getD-set-same (t .tasks) w (readied (nthTask t w) 0) noTask (waits-within t w (and-both _ _ there .0)))
 
         slot-after : nthSlot t′ j ≡ handed (nthSlot t j) (suc w)
         slot-after = getD-set-same (t .slots) j (handed (nthSlot t j) (suc w)) (freeSlot 0) (live-within t j l)
@@ -283,7 +304,8 @@ module _ (t : Tables) (f : Facts t) (i : ℕ) where
       (λ e.
       let named = must (names t id) (giveStep (slotOf t (slotNamed t id)) c .status) 4 (omega arith) (any-caller t c _ e) in
       let s = found t (f .sizes) id (named .0) in
-      subst (λ (m : ℕ). giveStep (slotOf t m) c .status ≡ 0 → Observed t (after m) i (giveStep (slotOf t m) c .woken)) (sym (s .number)) (give-observed c other (s .place) (s .live)) (named .1))
+      subst (λ (m : ℕ). giveStep (slotOf t m) c .status ≡ 0 → Observed t (after m) i (giveStep (slotOf t m) c .woken)) (sym (s .number))
+      (give-observed c other (s .place) (s .live)) (named .1))
     where
       after : ℕ → Tables
       after n =
@@ -298,7 +320,8 @@ module _ (t : Tables) (f : Facts t) (i : ℕ) where
       let n = firstNamed name (t .slots) 1 in
       observed-unless t i 0 (choose (eqb name 0 or eqb n 0) 3 0) (answered 0 (idOf n (slotOf t n)) t) (λ e. observed-same t i 0)
 
-  pub observed : (call : Call) (priorities : List ℕ) → 1 ≤ length (t .tasks) → suc i ≢ callerOf call → Observed t (perform t call priorities .tables) i (handedTo t call)
+  pub observed : (call : Call) (priorities : List ℕ) → 1 ≤ length (t .tasks) → suc i ≢ callerOf call
+      → Observed t (perform t call priorities .tables) i (handedTo t call)
   unfolding perform
   observed (Start slots) priorities h n = start-observed slots priorities h
   observed (Create caller name count attributes) priorities h n = create-observed caller name count attributes

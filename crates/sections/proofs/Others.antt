@@ -4,9 +4,9 @@ use mathlib.Core.Bool.{true, false}
 use mathlib.Core.List.{List}
 use mathlib.Core.Logic.{_⊎_, inl, inr, _≢_}
 use Prim.Native.Nat.{ℕ, suc, _≤_, _<_}
-use lib.Dec.{leb}
+use lib.Dec.{leb, eqb}
 use lib.ListN.{length, getD, set}
-use borrow.Author.Tests.{leb-true}
+use borrow.Author.Tests.{leb-true, eqb-true}
 use Rattle.laws.proofs.Choose.{choose-cases, and-both}
 use Rattle.rules.specs.declared.Call.{Call}
 use Rattle.rules.specs.declared.Call.the-variants.{Start, Create, Ident, Delete, Obtain, Release, Flush, Tick}
@@ -35,12 +35,13 @@ pub record Watched (q : ℕ) (H : Type 0) (s s′ : Slot) : Type 0 where
   pub keeps : isLive s ≡ true → isBinary (s .attributes) ≡ true → s .owner ≡ q → SameHold q s s′
   pub gains : isLive s ≡ true → isBinary (s .attributes) ≡ true → isLive s′ ≡ true → s′ .owner ≡ q → (s .owner ≡ q) ⊎ H
 
-pub watched-same : {q : ℕ} {H : Type 0} (s s′ : Slot) → s′ .live ≡ s .live → s′ .generation ≡ s .generation → s′ .attributes ≡ s .attributes → s′ .owner ≡ s .owner → s′ .nest ≡ s .nest
+pub watched-same : {q : ℕ} {H : Type 0} (s s′ : Slot) → s′ .live ≡ s .live → s′ .generation ≡ s .generation → s′ .attributes ≡ s .attributes
+    → s′ .owner ≡ s .owner → s′ .nest ≡ s .nest
     → Watched q H s s′
 watched-same s s′ l g a o n =
     record {
       attributes = λ e f h. a;
-      keeps = λ e b h. record { live = subst (λ (x : ℕ). lib.Dec.eqb x 1 ≡ true) (sym l) e; generation = g; owner = o ∙ h; nest = n };
+      keeps = λ e b h. record { live = subst (λ (x : ℕ). eqb x 1 ≡ true) (sym l) e; generation = g; owner = o ∙ h; nest = n };
       gains = λ e b f h. inl (sym o ∙ h);
     }
 
@@ -90,10 +91,12 @@ module _ (t : Tables) (i to : ℕ) where
   -- a refusal changes nothing
   pub observed-unless : (refusal : ℕ) (o : Outcome) → (refusal ≡ 0 → Observed t (o .tables) i to) → Observed t (unless refusal t o .tables) i to
   observed-unless refusal o f =
-      choose-cases (λ (z : Outcome). Observed t (z .tables) i to) (lib.Dec.eqb refusal 0) o (refused t refusal) (λ e. f (borrow.Author.Tests.eqb-true refusal 0 e)) (λ e. observed-same)
+      choose-cases (λ (z : Outcome). Observed t (z .tables) i to) (eqb refusal 0) o (refused t refusal)
+      (λ e. f (eqb-true refusal 0 e)) (λ e. observed-same)
 
 -- one slot is another, the rest as they were
-pub put-watched : (t t′ : Tables) (i j : ℕ) (s : Slot) → j < length (t .slots) → t′ .slots ≡ set (t .slots) j s → Watched (suc i) (Handed t t′ i j) (nthSlot t j) s
+pub put-watched : (t t′ : Tables) (i j : ℕ) (s : Slot) → j < length (t .slots) → t′ .slots ≡ set (t .slots) j s
+    → Watched (suc i) (Handed t t′ i j) (nthSlot t j) s
     → (k : ℕ) → Watched (suc i) (Handed t t′ i k) (nthSlot t k) (nthSlot t′ k)
 put-watched t t′ i j s h e w k =
     subst (λ (ss : List Slot). Watched (suc i) (Handed t t′ i k) (nthSlot t k) (getD ss k (freeSlot 0))) (sym e)
@@ -101,7 +104,8 @@ put-watched t t′ i j s h e w k =
     (λ n. watched-same _ _ refl refl refl refl refl))
 
 -- everybody in a queue is woken with an answer other than 0
-pub observed-emptied : (t : Tables) (f : Facts t) (j : ℕ) (s : Slot) (a i to : ℕ) → isLive (nthSlot t j) ≡ true → waits (readied (nthTask t i) a) ≡ false → a ≢ 0
+pub observed-emptied : (t : Tables) (f : Facts t) (j : ℕ) (s : Slot) (a i to : ℕ) → isLive (nthSlot t j) ≡ true → waits (readied (nthTask t i) a) ≡ false
+    → a ≢ 0
     → ((H : Type 0) → Watched (suc i) H (nthSlot t j) s) → Observed t (wakeAll (putSlot t (suc j) s) (nthSlot t j .queue) a) i to
 observed-emptied t f j s a i to l ready d w =
     record {

@@ -52,7 +52,8 @@ pub data Move (steps : List Step) (p p′ : Place) (b : Bool) : Type 0 where
   passes : p′ ≡ at (suc (p .section)) 0 → b ≡ false → (p .position ≡ 0) ⊎ (length steps ≤ pred (p .position)) → Move steps p p′ b
   enters : p′ ≡ at (p .section) 1 → b ≡ true → p .position ≡ 0 → Move steps p p′ b
 
-module _ (scripts : List Script) (single : (i : ℕ) → i < length scripts → indexOf (scriptAt scripts i .task) scripts ≡ i) (m : Memory) (s : State) (I : Serial scripts m s) where
+module _ (scripts : List Script) (single : (i : ℕ) → i < length scripts → indexOf (scriptAt scripts i .task) scripts ≡ i) (m : Memory) (s : State)
+    (I : Serial scripts m s) where
   abbrev N : ℕ
   N = length scripts
 
@@ -66,7 +67,8 @@ module _ (scripts : List Script) (single : (i : ℕ) → i < length scripts → 
       (moves : (i : ℕ) → i < N → Move (sectionAt (scriptAt scripts i) (placeAt s i .section) .steps) (placeAt s i) (placeAt s′ i) (b i))
       (grants : s′ .grants ≡ s .grants ++ rows (tabulate N (λ i. grantIf (b i) (scriptAt scripts i .task) (placeAt s i .section))))
       (one : (i k : ℕ) → i < N → k < N → b i ≡ true → b k ≡ true → i ≡ k) where
-    rest-moved : (g : Grant) (i : ℕ) → i ≡ indexOf (g .task) scripts → Move (sectionAt (scriptAt scripts i) (placeAt s i .section) .steps) (placeAt s i) (placeAt s′ i) (b i)
+    rest-moved : (g : Grant) (i : ℕ) → i ≡ indexOf (g .task) scripts
+        → Move (sectionAt (scriptAt scripts i) (placeAt s i .section) .steps) (placeAt s i) (placeAt s′ i) (b i)
         → (b i ≡ true → g .section ≢ placeAt s i .section) → restAt scripts g (placeAt s i) ≡ restAt scripts g (placeAt s′ i)
     rest-moved g i is (stays e n) new = ap (restAt scripts g) (sym e)
     rest-moved g i is (passes e n left) new = gone ∙ sym (ap (restAt scripts g) e ∙ if-no _ _ (closed (g .section) (at (suc (placeAt s i .section)) 0) refl))
@@ -83,9 +85,11 @@ module _ (scripts : List Script) (single : (i : ℕ) → i < length scripts → 
             left)
             (λ z. refl)
     rest-moved g i is (enters e y first) new =
-        if-no _ _ (closed (g .section) (placeAt s i) first) ∙ sym (ap (restAt scripts g) e ∙ if-no _ _ (elsewhere (g .section) (at (placeAt s i .section) 1) (new y)))
+        if-no _ _ (closed (g .section) (placeAt s i) first)
+        ∙ sym (ap (restAt scripts g) e ∙ if-no _ _ (elsewhere (g .section) (at (placeAt s i .section) 1) (new y)))
 
-    rest-same : (g : Grant) → (indexOf (g .task) scripts < N → b (indexOf (g .task) scripts) ≡ true → g .section ≢ placeAt s (indexOf (g .task) scripts) .section) → restOf scripts s g ≡ restOf scripts s′ g
+    rest-same : (g : Grant) → (indexOf (g .task) scripts < N → b (indexOf (g .task) scripts) ≡ true
+        → g .section ≢ placeAt s (indexOf (g .task) scripts) .section) → restOf scripts s g ≡ restOf scripts s′ g
     rest-same g new =
         elim (decLt (indexOf (g .task) scripts) N) [
           | yes h ↦ rest-moved g (indexOf (g .task) scripts) refl (moves _ h) (new h)
@@ -96,9 +100,11 @@ module _ (scripts : List Script) (single : (i : ℕ) → i < length scripts → 
         beyond u e n = List·getD-eq-default (u .places) (at 0 0) (omega arith)
 
     -- a script that enters nothing
-    counts-moved : (i : ℕ) → i < N → b i ≡ false → (k : ℕ) → placeAt s′ i .section ≤ k → Move (sectionAt (scriptAt scripts i) (placeAt s i .section) .steps) (placeAt s i) (placeAt s′ i) (b i)
+    counts-moved : (i : ℕ) → i < N → b i ≡ false → (k : ℕ) → placeAt s′ i .section ≤ k
+        → Move (sectionAt (scriptAt scripts i) (placeAt s i .section) .steps) (placeAt s i) (placeAt s′ i) (b i)
         → times (grantOf scripts i k) (s .grants) ≡ bit (isOpenAt k (placeAt s′ i))
-    counts-moved i h n k l (stays e z) = subst (λ (p : Place). p .section ≤ k → times (grantOf scripts i k) (s .grants) ≡ bit (isOpenAt k p)) (sym e) (I .counts i h k) l
+    counts-moved i h n k l (stays e z) = subst (λ (p : Place). p .section ≤ k → times (grantOf scripts i k) (s .grants) ≡ bit (isOpenAt k p)) (sym e)
+        (I .counts i h k) l
     counts-moved i h n k l (passes e z left) =
         let past : suc (placeAt s i .section) ≤ k = subst (λ (p : Place). p .section ≤ k) e l in
         I .counts i h k (omega arith) ∙ bit-no _ (elsewhere k (placeAt s i) (λ w. omega arith))
@@ -128,7 +134,8 @@ module _ (scripts : List Script) (single : (i : ℕ) → i < length scripts → 
           counts = λ i l k v. ap (times (grantOf scripts i k)) more ∙ times-append (grantOf scripts i k) g (s .grants) ∙ count i l k v;
           serial =
               ap (λ (gs : List Grant). plain scripts gs m) more ∙ plain-finish scripts (s .grants ++ g ∷ []) m ∙ finish-append (stepsOf scripts) (s .grants) g m
-              ∙ ap (doSteps (g .task) (stepsOf scripts g)) (sym (plain-finish scripts (s .grants) m) ∙ I .serial ∙ finish-same (restOf scripts s) (restOf scripts s′) (s .grants) (s .memory) kept)
+              ∙ ap (doSteps (g .task) (stepsOf scripts g))
+              (sym (plain-finish scripts (s .grants) m) ∙ I .serial ∙ finish-same (restOf scripts s) (restOf scripts s′) (s .grants) (s .memory) kept)
               ∙ ap (λ (ss : List Step). doSteps (g .task) ss (finish (restOf scripts s′) (s .grants) (s .memory))) (sym whole)
               ∙ sym (finish-append (restOf scripts s′) (s .grants) g (s .memory))
               ∙ sym (ap (λ (gs : List Grant). finish (restOf scripts s′) gs (s′ .memory)) more ∙ ap (finish (restOf scripts s′) (s .grants ++ g ∷ [])) memory);
@@ -138,12 +145,14 @@ module _ (scripts : List Script) (single : (i : ℕ) → i < length scripts → 
         g = grantOf scripts j (placeAt s j .section)
 
         more : s′ .grants ≡ s .grants ++ g ∷ []
-        more = grants ∙ ap (λ (gs : List Grant). s .grants ++ gs) (rows-one N b (λ i. grantOf scripts i (placeAt s i .section)) j h y (λ i l t. one i j l h t y))
+        more = grants ∙ ap (λ (gs : List Grant). s .grants ++ gs)
+            (rows-one N b (λ i. grantOf scripts i (placeAt s i .section)) j h y (λ i l t. one i j l h t y))
 
         entered : (placeAt s′ j ≡ at (placeAt s j .section) 1) × (placeAt s j .position ≡ 0)
         entered = go (moves j h)
           where
-            go : Move (sectionAt (scriptAt scripts j) (placeAt s j .section) .steps) (placeAt s j) (placeAt s′ j) (b j) → (placeAt s′ j ≡ at (placeAt s j .section) 1) × (placeAt s j .position ≡ 0)
+            go : Move (sectionAt (scriptAt scripts j) (placeAt s j .section) .steps) (placeAt s j) (placeAt s′ j) (b j)
+                → (placeAt s′ j ≡ at (placeAt s j .section) 1) × (placeAt s j .position ≡ 0)
             go (stays e n) = never y n
             go (passes e n left) = never y n
             go (enters e z first) = (e, first)
@@ -168,13 +177,17 @@ module _ (scripts : List Script) (single : (i : ℕ) → i < length scripts → 
             ap (λ (i : ℕ). restAt scripts g (placeAt s′ i)) (single j h) ∙ ap (restAt scripts g) (entered .0)
             ∙ if-yes _ _ (both-and (eq-eqb (placeAt s j .section) (placeAt s j .section) refl) refl)
 
-        count : (i : ℕ) → i < N → (k : ℕ) → placeAt s′ i .section ≤ k → times (grantOf scripts i k) (s .grants) + bit (isGrant (grantOf scripts i k) g) ≡ bit (isOpenAt k (placeAt s′ i))
+        count : (i : ℕ) → i < N → (k : ℕ) → placeAt s′ i .section ≤ k
+            → times (grantOf scripts i k) (s .grants) + bit (isGrant (grantOf scripts i k) g) ≡ bit (isOpenAt k (placeAt s′ i))
         count i l k v =
             elim (ℕ-discrete i j) [
-              | yes e ↦ subst (λ (n : ℕ). placeAt s′ n .section ≤ k → times (grantOf scripts n k) (s .grants) + bit (isGrant (grantOf scripts n k) g) ≡ bit (isOpenAt k (placeAt s′ n))) (sym e) here v
+              | yes e ↦ subst (λ (n : ℕ). placeAt s′ n .section ≤ k
+                  → times (grantOf scripts n k) (s .grants) + bit (isGrant (grantOf scripts n k) g) ≡ bit (isOpenAt k (placeAt s′ n))) (sym e) here v
               | no n ↦
                   let apart : isGrant (grantOf scripts i k) g ≡ false =
-                  ⊎-elim (λ (z : isGrant (grantOf scripts i k) g ≡ true). absurd (n (same-script i j l h (ap (λ (q : Grant). q .task) (grant-is (grantOf scripts i k) g z))))) (λ (z : isGrant (grantOf scripts i k) g ≡ false). z)
+                  ⊎-elim (λ (z : isGrant (grantOf scripts i k) g ≡ true). absurd
+                  (n (same-script i j l h (ap (λ (q : Grant). q .task) (grant-is (grantOf scripts i k) g z)))))
+                  (λ (z : isGrant (grantOf scripts i k) g ≡ false). z)
                   (tested (isGrant (grantOf scripts i k) g)) in
                   let idle : b i ≡ false = ⊎-elim (λ (z : b i ≡ true). absurd (n (one i j l h z y))) (λ (z : b i ≡ false). z) (tested (b i)) in
                   omega (arith, bit-no _ apart, counts-moved i l idle k v (moves i l))
@@ -190,14 +203,17 @@ module _ (scripts : List Script) (single : (i : ℕ) → i < length scripts → 
                 agree : isGrant (grantOf scripts j k) g ≡ isOpenAt k (placeAt s′ j)
                 agree =
                     if-yes _ _ (eq-eqb (g .task) (g .task) refl)
-                    ∙ sym (ap (isOpenAt k) (entered .0) ∙ choose-cases (λ (z : Bool). z ≡ eqb k (placeAt s j .section)) (eqb k (placeAt s j .section)) true false (λ e. sym e) (λ e. sym e))
+                    ∙ sym (ap (isOpenAt k) (entered .0)
+                    ∙ choose-cases (λ (z : Bool). z ≡ eqb k (placeAt s j .section)) (eqb k (placeAt s j .section)) true false (λ e. sym e) (λ e. sym e))
 
     pub all-moved : Serial scripts m s′
-    all-moved = ⊎-elim (λ (k : (k : ℕ) × (k < N) × (b k ≡ true)). one-entered (k .0) (k .1) (k .2)) (λ (f : (i : ℕ) → i < N → b i ≡ false). none-entered f) (some-or-none N b)
+    all-moved = ⊎-elim (λ (k : (k : ℕ) × (k < N) × (b k ≡ true)). one-entered (k .0) (k .1) (k .2)) (λ (f : (i : ℕ) → i < N → b i ≡ false). none-entered f)
+        (some-or-none N b)
 
   -- ---- an open section takes a step
 
-  module _ (i : ℕ) (h : i < N) (inside : 1 ≤ placeAt s i .position) (more : placeAt s i .position ≤ length (sectionAt (scriptAt scripts i) (placeAt s i .section) .steps)) where
+  module _ (i : ℕ) (h : i < N) (inside : 1 ≤ placeAt s i .position)
+      (more : placeAt s i .position ≤ length (sectionAt (scriptAt scripts i) (placeAt s i .section) .steps)) where
     abbrev mine : Grant
     mine = grantOf scripts i (placeAt s i .section)
 
@@ -207,7 +223,8 @@ module _ (scripts : List Script) (single : (i : ℕ) → i < length scripts → 
     abbrev after : State
     after = moved s i (at (placeAt s i .section) (suc (placeAt s i .position))) (doStep (scriptAt scripts i .task) step (s .memory))
 
-    pub step-taken : ((g : Grant) → g ≢ mine → (k : Memory) → doSteps (g .task) (restOf scripts s g) (doStep (mine .task) step k) ≡ doStep (mine .task) step (doSteps (g .task) (restOf scripts s g) k))
+    pub step-taken : ((g : Grant) → g ≢ mine → (k : Memory)
+        → doSteps (g .task) (restOf scripts s g) (doStep (mine .task) step k) ≡ doStep (mine .task) step (doSteps (g .task) (restOf scripts s g) k))
         → Serial scripts m after
     unfolding doSteps
     step-taken commutes =
@@ -244,7 +261,8 @@ module _ (scripts : List Script) (single : (i : ℕ) → i < length scripts → 
             ap (λ (ss : List Step). doSteps (mine .task) ss k)
             (rest-of s (placeAt s i) refl (open-here (placeAt s i .position) inside) ∙ drop-cons steps (pred (placeAt s i .position)) NoStep (omega arith)
             ∙ ap (λ (n : ℕ). step ∷ drop n steps) here)
-            ∙ ap (λ (ss : List Step). doSteps (mine .task) ss (doStep (mine .task) step k)) (sym (rest-of after _ place-here (open-here (suc (placeAt s i .position)) (omega arith))))
+            ∙ ap (λ (ss : List Step). doSteps (mine .task) ss (doStep (mine .task) step k))
+            (sym (rest-of after _ place-here (open-here (suc (placeAt s i .position)) (omega arith))))
           where
             here : suc (pred (placeAt s i .position)) ≡ placeAt s i .position
             here = omega arith
@@ -253,21 +271,27 @@ module _ (scripts : List Script) (single : (i : ℕ) → i < length scripts → 
         same g n =
             elim (ℕ-discrete (indexOf (g .task) scripts) i) [
               | yes e ↦
-                  let k : g .section ≢ placeAt s i .section = λ z. n (grant-is g mine (both-and (eq-eqb _ _ (sym (index-task (g .task) scripts (omega arith)) ∙ ap (λ (j : ℕ). scriptAt scripts j .task) e)) (eq-eqb _ _ z))) in
+                  let k : g .section ≢ placeAt s i .section = λ z. n
+                  (grant-is g mine (both-and (eq-eqb _ _ (sym (index-task (g .task) scripts (omega arith)) ∙ ap (λ (j : ℕ). scriptAt scripts j .task) e))
+                  (eq-eqb _ _ z))) in
                   ap (λ (j : ℕ). restAt scripts g (placeAt s j)) e ∙ if-no _ _ (elsewhere (g .section) (placeAt s i) k)
-                  ∙ sym (ap (λ (j : ℕ). restAt scripts g (placeAt after j)) e ∙ ap (restAt scripts g) place-here ∙ if-no _ _ (elsewhere (g .section) (at (placeAt s i .section) (suc (placeAt s i .position))) k))
+                  ∙ sym (ap (λ (j : ℕ). restAt scripts g (placeAt after j)) e ∙ ap (restAt scripts g) place-here
+                  ∙ if-no _ _ (elsewhere (g .section) (at (placeAt s i .section) (suc (placeAt s i .position))) k))
               | no d ↦ ap (restAt scripts g) (sym (place-other (indexOf (g .task) scripts) d))
             ]
 
         counts′ : (j : ℕ) → j < N → (k : ℕ) → placeAt after j .section ≤ k → times (grantOf scripts j k) (s .grants) ≡ bit (isOpenAt k (placeAt after j))
         counts′ j l k v =
             elim (ℕ-discrete j i) [
-              | yes e ↦ subst (λ (n : ℕ). placeAt after n .section ≤ k → times (grantOf scripts n k) (s .grants) ≡ bit (isOpenAt k (placeAt after n))) (sym e) here v
-              | no n ↦ subst (λ (p : Place). p .section ≤ k → times (grantOf scripts j k) (s .grants) ≡ bit (isOpenAt k p)) (sym (place-other j n)) (I .counts j l k) v
+              | yes e ↦ subst (λ (n : ℕ). placeAt after n .section ≤ k → times (grantOf scripts n k) (s .grants) ≡ bit (isOpenAt k (placeAt after n)))
+                  (sym e) here v
+              | no n ↦ subst (λ (p : Place). p .section ≤ k → times (grantOf scripts j k) (s .grants) ≡ bit (isOpenAt k p)) (sym (place-other j n))
+                  (I .counts j l k) v
             ]
           where
             here : placeAt after i .section ≤ k → times (grantOf scripts i k) (s .grants) ≡ bit (isOpenAt k (placeAt after i))
             here w =
                 I .counts i h k (subst (λ (p : Place). p .section ≤ k) place-here w)
                 ∙ ap (λ (z : Bool). bit (eqb k (placeAt s i .section) and z)) (le-leb 1 (placeAt s i .position) inside)
-                ∙ sym (ap (λ (p : Place). bit (isOpenAt k p)) place-here ∙ ap (λ (z : Bool). bit (eqb k (placeAt s i .section) and z)) (le-leb 1 (suc (placeAt s i .position)) (omega arith)))
+                ∙ sym (ap (λ (p : Place). bit (isOpenAt k p)) place-here
+                ∙ ap (λ (z : Bool). bit (eqb k (placeAt s i .section) and z)) (le-leb 1 (suc (placeAt s i .position)) (omega arith)))

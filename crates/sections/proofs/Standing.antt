@@ -76,9 +76,11 @@ not-obtainer call q h other =
     ne-eqb _ _ (choose-cases (λ (n : ℕ). n ≡ q → ⊥) (eqb (kindOf call) 5) (callerOf call) 0 (λ k e. other (sym e)) (λ k e. omega arith))
 
 -- the place of a slot that an identifier names
-pub slot-of : (t : Tables) (f : Facts t) (y j : ℕ) → isLive (nthSlot t j) ≡ true → y ≡ idOf (suc j) (nthSlot t j) → (y % 65536 ≡ suc j) × (y / 65536 ≡ nthSlot t j .generation)
+pub slot-of : (t : Tables) (f : Facts t) (y j : ℕ) → isLive (nthSlot t j) ≡ true → y ≡ idOf (suc j) (nthSlot t j) → (y % 65536 ≡ suc j)
+    × (y / 65536 ≡ nthSlot t j .generation)
 slot-of t f y j l is =
-    subst (λ (z : ℕ). (z % 65536 ≡ suc j) × (z / 65536 ≡ nthSlot t j .generation)) (sym is) (id-parts (nthSlot t j .generation) (suc j) (omega (arith, below t f j l)))
+    subst (λ (z : ℕ). (z % 65536 ≡ suc j) × (z / 65536 ≡ nthSlot t j .generation)) (sym is)
+    (id-parts (nthSlot t j .generation) (suc j) (omega (arith, below t f j l)))
 
 -- a live slot of the right generation is named
 pub names-live : (t : Tables) (y j : ℕ) → y % 65536 ≡ suc j → isLive (nthSlot t j) ≡ true → nthSlot t j .generation ≡ y / 65536 → names t y ≡ true
@@ -93,7 +95,8 @@ names-live t y j e l g =
 
 module _ (t t′ : Tables) (y : ℕ) where
   -- what lives on is named as before
-  pub names-kept : names t y ≡ true → isLive (slotOf t′ (y % 65536)) ≡ true → slotOf t′ (y % 65536) .generation ≡ slotOf t (y % 65536) .generation → names t′ y ≡ true
+  pub names-kept : names t y ≡ true → isLive (slotOf t′ (y % 65536)) ≡ true → slotOf t′ (y % 65536) .generation ≡ slotOf t (y % 65536) .generation
+      → names t′ y ≡ true
   names-kept n l g =
       let m : Named t y = names-named t y n in
       let some : y % 65536 ≡ suc (pred (y % 65536)) = omega arith in
@@ -111,7 +114,8 @@ module _ (t t′ : Tables) (y : ℕ) where
     where
       gone : names t y ≡ false → y / 65536 ≡ slotOf t (y % 65536) .generation → isLive (slotOf t (y % 65536)) ≡ false
       gone e g =
-          ⊎-elim (λ (l : isLive (slotOf t (y % 65536)) ≡ true). never (named-names t y (record { low = used .low; high = used .high; lives = l; generation = sym g })) e)
+          ⊎-elim (λ (l : isLive (slotOf t (y % 65536)) ≡ true). never
+          (named-names t y (record { low = used .low; high = used .high; lives = l; generation = sym g })) e)
           (λ (l : isLive (slotOf t (y % 65536)) ≡ false). l)
           (tested (isLive (slotOf t (y % 65536))))
 
@@ -126,7 +130,8 @@ module _ (t : Tables) (a : Agrees t) (call : Call) (priorities : List ℕ) (star
   left = perform t call priorities .tables
 
   went : {y : ℕ} → Used t y → Forward t left
-  went used = subst (λ (o : Outcome). Forward t (o .tables)) (performs t call priorities a) (step-forward t call priorities (omega (arith, used .low, used .high)))
+  went used = subst (λ (o : Outcome). Forward t (o .tables)) (performs t call priorities a)
+      (step-forward t call priorities (omega (arith, used .low, used .high)))
 
   pub back : (y : ℕ) → Guard t y → names left y ≡ true → names t y ≡ true
   back y g = named-before t left y (went (g .used)) (g .used)
@@ -143,10 +148,12 @@ module _ (t : Tables) (a : Agrees t) (call : Call) (priorities : List ℕ) (star
             subst (λ (k : ℕ). isBinary k ≡ true) (sym same) (g .binary n);
       }
 
-module _ (G : ℕ → Type 0) (t : Tables) (f : Facts t) (guards : (y : ℕ) → G y → Guard t y) (script : Script) (ids : (k : ℕ) → k < length (script .sections) → G (idAt script k)) (c : ℕ) where
+module _ (G : ℕ → Type 0) (t : Tables) (f : Facts t) (guards : (y : ℕ) → G y → Guard t y) (script : Script)
+    (ids : (k : ℕ) → k < length (script .sections) → G (idAt script k)) (c : ℕ) where
   -- ---- the call of another
 
-  module _ (call : Call) (o : Outcome) (other : suc c ≢ callerOf call) (seen : Observed t (o .tables) c (handedTo t call)) (back : (y : ℕ) → G y → names (o .tables) y ≡ true → names t y ≡ true) where
+  module _ (call : Call) (o : Outcome) (other : suc c ≢ callerOf call) (seen : Observed t (o .tables) c (handedTo t call))
+      (back : (y : ℕ) → G y → names (o .tables) y ≡ true → names t y ≡ true) where
     abbrev t′ : Tables
     t′ = o .tables
 
@@ -156,12 +163,14 @@ module _ (G : ℕ → Type 0) (t : Tables) (f : Facts t) (guards : (y : ℕ) →
 
     keeps-owning : (y : ℕ) → G y → Owns t (suc c) y → Owns t′ (suc c) y
     keeps-owning y g h =
-        let s : SameHold (suc c) (slotOf t (y % 65536)) (slotOf t′ (y % 65536)) = watched y .keeps (names-named t y (h .named) .lives) (guards y g .binary (h .named)) (h .owner) in
+        let s : SameHold (suc c) (slotOf t (y % 65536)) (slotOf t′ (y % 65536)) = watched y .keeps (names-named t y (h .named) .lives)
+        (guards y g .binary (h .named)) (h .owner) in
         record { named = names-kept t t′ y (h .named) (s .live) (s .generation); owner = s .owner; nest = s .nest ∙ h .nest }
 
     -- who owns now has owned, or was handed what it waited on
     gained : (y : ℕ) → G y → names t′ y ≡ true → slotOf t′ (y % 65536) .owner ≡ suc c
-        → ((names t y ≡ true) × (slotOf t (y % 65536) .owner ≡ suc c)) ⊎ ((waits (nthTask t c) ≡ true) × (nthTask t c .awaited ≡ y) × (nthTask t′ c .answer ≡ 0))
+        → ((names t y ≡ true) × (slotOf t (y % 65536) .owner ≡ suc c))
+        ⊎ ((waits (nthTask t c) ≡ true) × (nthTask t c .awaited ≡ y) × (nthTask t′ c .answer ≡ 0))
     gained y g n′ e =
         let n : names t y ≡ true = back y g n′ in
         let m : Named t y = names-named t y n in
@@ -246,7 +255,8 @@ module _ (G : ℕ → Type 0) (t : Tables) (f : Facts t) (guards : (y : ℕ) →
       pub said-same : SameWait (nthTask t c) (nthTask t′ c) → said t call o (suc c) ≡ 100
       unfolding said
       said-same same =
-          choose-cases (λ (n : ℕ). n ≡ 100) (waits (nthTask t c)) _ _ (λ w. same .answer ∙ eqb-true _ _ w) (λ w. if-no _ _ (not-obtainer call (suc c) (omega arith) other))
+          choose-cases (λ (n : ℕ). n ≡ 100) (waits (nthTask t c)) _ _ (λ w. same .answer ∙ eqb-true _ _ w)
+          (λ w. if-no _ _ (not-obtainer call (suc c) (omega arith) other))
 
       pub said-woken : Woken t t′ c (handedTo t call) → said t call o (suc c) ≡ nthTask t′ c .answer
       unfolding said
@@ -263,5 +273,6 @@ module _ (G : ℕ → Type 0) (t : Tables) (f : Facts t) (guards : (y : ℕ) →
               subst (λ (n : ℕ). Stand G t′ script c (placeAfter n p)) (sym (said-woken woken))
               (elim (ℕ-discrete (nthTask t′ c .answer) 0) [
                 | yes e ↦ subst (Stand G t′ script c) (sym (ap (λ (n : ℕ). placeAfter n p) e ∙ place-granted p)) (got-it woken e)
-                | no n ↦ subst (Stand G t′ script c) (sym (place-skipped (nthTask t′ c .answer) p n (unlike (nthTask t′ c) (woken .ready)))) (got-nothing woken n)
+                | no n ↦ subst (Stand G t′ script c) (sym (place-skipped (nthTask t′ c .answer) p n (unlike (nthTask t′ c) (woken .ready))))
+                    (got-nothing woken n)
               ])

@@ -34,12 +34,14 @@ unfolding said kindOf choose
 said-released t c q x o ready = if-no _ _ ready ∙ if-no _ _ (ne-eqb 0 (suc c) (omega arith))
 
 -- it waits exactly where its obtain answers 100
-pub own-waits : (t : Tables) (c x : ℕ) (o : Outcome) → waits (nthTask t c) ≡ false → Obtained t c x o → waits (nthTask (o .tables) c) ≡ eqb (o .answer .status) 100
+pub own-waits : (t : Tables) (c x : ℕ) (o : Outcome) → waits (nthTask t c) ≡ false → Obtained t c x o
+    → waits (nthTask (o .tables) c) ≡ eqb (o .answer .status) 100
 own-waits t c x o ready (refusing same n m) = ap (λ (u : Tables). waits (nthTask u c)) same ∙ ready ∙ sym (ne-eqb (o .answer .status) 100 m)
 own-waits t c x o ready (taking j z l is task l′ g holds others) = ap (λ (v : Task). waits v) task ∙ ready ∙ sym (ap (λ (n : ℕ). eqb n 100) z)
 own-waits t c x o ready (waiting z w awaited owners) = w ∙ sym (eq-eqb (o .answer .status) 100 z)
 
-module _ (G : ℕ → Type 0) (t : Tables) (f : Facts t) (guards : (y : ℕ) → G y → Guard t y) (script : Script) (ids : (k : ℕ) → k < length (script .sections) → G (idAt script k)) (c : ℕ)
+module _ (G : ℕ → Type 0) (t : Tables) (f : Facts t) (guards : (y : ℕ) → G y → Guard t y) (script : Script)
+    (ids : (k : ℕ) → k < length (script .sections) → G (idAt script k)) (c : ℕ)
     (p : Place) (st : Stand G t script c p) (ready : waits (nthTask t c) ≡ false) (more : p .section < length (script .sections)) where
   abbrev x : ℕ
   x = idAt script (p .section)
@@ -55,7 +57,8 @@ module _ (G : ℕ → Type 0) (t : Tables) (f : Facts t) (guards : (y : ℕ) →
     had-none y g n e = omega (arith, st .own y g n e .0)
 
     -- it stands at an obtain with no section's semaphore and without waiting
-    empty-handed : (u : Tables) (k : ℕ) → waits (nthTask u c) ≡ false → ((y : ℕ) → G y → names u y ≡ true → slotOf u (y % 65536) .owner ≡ suc c → ⊥) → Stand G u script c (at k 0)
+    empty-handed : (u : Tables) (k : ℕ) → waits (nthTask u c) ≡ false → ((y : ℕ) → G y → names u y ≡ true → slotOf u (y % 65536) .owner ≡ suc c → ⊥)
+        → Stand G u script c (at k 0)
     empty-handed u k w none =
         record { within = λ h. absurd (omega arith); open′ = λ h. absurd (omega arith); own = λ y g n e. absurd (none y g n e); waits′ = λ z. never z w }
 
@@ -119,7 +122,8 @@ module _ (G : ℕ → Type 0) (t : Tables) (f : Facts t) (guards : (y : ℕ) →
 
     pub given-up : Released t u c (pred (x % 65536))
     given-up =
-        released t f c (pred (x % 65536)) (m .lives) (guards x (ids _ more) .binary (has .named)) (record { owner = has .owner; nest = has .nest }) ready x (has .named) is
+        released t f c (pred (x % 65536)) (m .lives) (guards x (ids _ more) .binary (has .named)) (record { owner = has .owner; nest = has .nest }) ready x
+        (has .named) is
       where
         has : Owns t (suc c) x
         has = st .open′ inside

@@ -64,7 +64,8 @@ abbrev turns : ℕ → List Event
 turns q = Turn q ∷ Turn q ∷ Turn q ∷ Turn q ∷ Turn q ∷ Turn q ∷ []
 
 -- task 2 waits while task 1 is inside, turn by turn, and enters at its release
-two-writers : seen made (handed (script 1 (counting 0 ∷ []) ∷ script 2 (counting 0 ∷ []) ∷ [])) (Turn 1 ∷ Turn 1 ∷ Turn 2 ∷ Turn 1 ∷ Turn 2 ∷ Turn 1 ∷ Turn 1 ∷ Turn 1 ∷ turns 2)
+two-writers : seen made (handed (script 1 (counting 0 ∷ []) ∷ script 2 (counting 0 ∷ []) ∷ []))
+    (Turn 1 ∷ Turn 1 ∷ Turn 2 ∷ Turn 1 ∷ Turn 2 ∷ Turn 1 ∷ Turn 1 ∷ Turn 1 ∷ turns 2)
     ≡ record {
       answer = says 0 0 1;
       cells = 42 ∷ [];
@@ -79,7 +80,8 @@ unfolding seen
 two-writers = refl
 
 -- task 2's wait ends at the tick, in the middle of task 1's section: its section is skipped at that event
-timed-out : seen made (handed (script 1 (counting 0 ∷ []) ∷ script 2 (counting 1 ∷ counting 0 ∷ []) ∷ [])) (Turn 1 ∷ Turn 1 ∷ Turn 2 ∷ Other (ask Tick) ∷ Turn 1 ∷ Turn 1 ∷ Turn 1 ∷ [])
+timed-out : seen made (handed (script 1 (counting 0 ∷ []) ∷ script 2 (counting 1 ∷ counting 0 ∷ []) ∷ []))
+    (Turn 1 ∷ Turn 1 ∷ Turn 2 ∷ Other (ask Tick) ∷ Turn 1 ∷ Turn 1 ∷ Turn 1 ∷ [])
     ≡ record {
       answer = says 0 0 1;
       cells = 41 ∷ [];
@@ -94,7 +96,8 @@ unfolding seen
 timed-out = refl
 
 -- the semaphore is deleted, its slot goes to a counting semaphore with room for two, and neither writer walks in
-no-address : seen made (handed (script 1 (counting 0 ∷ []) ∷ script 2 (counting 0 ∷ []) ∷ [])) (Other (ask (Delete 3 65537)) ∷ Other (ask (Create 3 78 2 0)) ∷ turns 1 ++ turns 2)
+no-address : seen made (handed (script 1 (counting 0 ∷ []) ∷ script 2 (counting 0 ∷ []) ∷ []))
+    (Other (ask (Delete 3 65537)) ∷ Other (ask (Create 3 78 2 0)) ∷ turns 1 ++ turns 2)
     ≡ record {
       answer = says 0 0 1;
       cells = 40 ∷ [];
