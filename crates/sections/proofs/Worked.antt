@@ -63,17 +63,21 @@ handed scripts = record { scripts = scripts; ids = 65537 ∷ []; memory = record
 abbrev turns : ℕ → List Event
 turns q = Turn q ∷ Turn q ∷ Turn q ∷ Turn q ∷ Turn q ∷ Turn q ∷ []
 
--- task 2 waits while task 1 is inside, turn by turn, and enters at its release
-two-writers : seen made (handed (script 1 (counting 0 ∷ []) ∷ script 2 (counting 0 ∷ []) ∷ []))
+-- twice as much in cell 0
+abbrev doubling : Section
+doubling = record { id = 65537; options = 0; timeout = 0; steps = Load 0 0 ∷ Add 0 0 ∷ Store 0 0 ∷ [] }
+
+-- task 2 waits while task 1 is inside, turn by turn, and enters at its release: one more, then twice as much
+two-writers : seen made (handed (script 1 (counting 0 ∷ []) ∷ script 2 (doubling ∷ []) ∷ []))
     (Turn 1 ∷ Turn 1 ∷ Turn 2 ∷ Turn 1 ∷ Turn 2 ∷ Turn 1 ∷ Turn 1 ∷ Turn 1 ∷ turns 2)
     ≡ record {
       answer = says 0 0 1;
-      cells = 42 ∷ [];
-      locals = 41 ∷ 1 ∷ 0 ∷ 0 ∷ 0 ∷ 0 ∷ 0 ∷ 0 ∷ 42 ∷ 1 ∷ 0 ∷ 0 ∷ 0 ∷ 0 ∷ 0 ∷ 0 ∷ [];
+      cells = 82 ∷ [];
+      locals = 41 ∷ 1 ∷ 0 ∷ 0 ∷ 0 ∷ 0 ∷ 0 ∷ 0 ∷ 82 ∷ 0 ∷ 0 ∷ 0 ∷ 0 ∷ 0 ∷ 0 ∷ 0 ∷ [];
       places = at 1 0 ∷ at 1 0 ∷ [];
       grants = granted 1 0 ∷ granted 2 0 ∷ [];
       opened = [];
-      plain = 42 ∷ [];
+      plain = 82 ∷ [];
       read = granted 1 0 ∷ granted 2 0 ∷ [];
     }
 unfolding seen
@@ -111,10 +115,19 @@ no-address : seen made (handed (script 1 (counting 0 ∷ []) ∷ script 2 (count
 unfolding seen
 no-address = refl
 
--- refused before anything is run: a section on a counting semaphore; a turn of a task without a script; tables that do not agree
+-- refused before anything is run: a section on a counting semaphore, on an owned one, two scripts for one task; a turn of a task without a script;
+-- tables that do not agree
 refused-11 : run (tablesOf (startWith 2 (10 ∷ []) ∷ ask (Create 1 77 2 0) ∷ [])) (handed (script 1 (counting 0 ∷ []) ∷ [])) (Turn 1 ∷ []) .answer ≡ says 11 0 1
 unfolding seen
 refused-11 = refl
+
+refused-owned : run (tablesOf (startWith 2 (10 ∷ []) ∷ ask (Create 1 77 0 16) ∷ [])) (handed (script 1 (counting 0 ∷ []) ∷ [])) (Turn 1 ∷ []) .answer ≡ says 11 0 1
+unfolding seen
+refused-owned = refl
+
+refused-twice : run made (handed (script 1 (counting 0 ∷ []) ∷ script 1 [] ∷ [])) (Turn 1 ∷ []) .answer ≡ says 11 0 1
+unfolding seen
+refused-twice = refl
 
 refused-4 : run made (handed (script 1 (counting 0 ∷ []) ∷ [])) (Turn 2 ∷ []) .answer ≡ says 4 0 1
 unfolding seen
