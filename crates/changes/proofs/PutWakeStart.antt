@@ -60,11 +60,6 @@ wake-all-tasks t [] answer = refl
 wake-all-tasks t (q ∷ qs) answer =
     wake-all-tasks (wake t q answer) qs answer ∙ length-set (t .tasks) (pred q) (readied (taskOf t q) answer)
 
-pub wake-all-slots : (t : Tables) (qs : List ℕ) (answer : ℕ) → wakeAll t qs answer .slots ≡ t .slots
-unfolding wakeAll
-wake-all-slots t [] answer = refl
-wake-all-slots t (q ∷ qs) answer = wake-all-slots (wake t q answer) qs answer
-
 wake-all-last : (t : Tables) (qs : List ℕ) (q answer : ℕ) → wakeAll t (qs ++ q ∷ []) answer ≡ wake (wakeAll t qs answer) q answer
 unfolding wakeAll
 wake-all-last t [] q answer = refl

@@ -78,13 +78,12 @@ filled-tasks q h n =
       high = λ k l. rw (getD-fit 32 0 q k (omega arith)) (n .high k l);
     }
 
--- the record that is loaded has task numbers for its waiters, and 0 behind them
-pub record Waiting (s : Semaphore) : Type 0 where
-  pub padded : Padded s
-  pub numbers : TasksOnly (s .waiters) (s .queue)
+-- a record with task numbers for its waiters, and 0 behind them
+abbrev pub Queues : Semaphore → Type 0
+Queues s = Padded s × TasksOnly (s .waiters) (s .queue)
 
-pub waiting-same : {s s′ : Semaphore} → s′ ≡ s → Padded s → TasksOnly (s .waiters) (s .queue) → Waiting s′
-waiting-same e p n = rw e (record { padded = p; numbers = n })
+pub queues-same : {s s′ : Semaphore} → s′ ≡ s → Queues s → Queues s′
+queues-same e q = rw e q
 
 module _ (m₀ : List ℕ) (b₀ : Bytes m₀) (q : TaskQueues m₀) where
   pub sized : length m₀ ≡ tablesLength
@@ -93,8 +92,8 @@ module _ (m₀ : List ℕ) (b₀ : Bytes m₀) (q : TaskQueues m₀) where
   pub few-slots : wordAt m₀ 1 ≤ 64
   few-slots = omega (arith, slots-counted [] m₀ b₀ (q .model) (q .same) (q .limited), q .limited .slots)
 
-  pub record-waiting : (expired : List Bool) (m : List ℕ) (i : ℕ) → Bytes m → i < wordAt m₀ 1 → KeptUpTo m₀ expired m i → Waiting (recordAt m i)
-  record-waiting expired m i b l k =
+  pub record-queues : (expired : List Bool) (m : List ℕ) (i : ℕ) → Bytes m → i < wordAt m₀ 1 → KeptUpTo m₀ expired m i → Queues (recordAt m i)
+  record-queues expired m i b l k =
       let t : Tables = q .model in
       let e : m ≡ laid (keptUpTo expired t i) = k t (q .same) (q .limited) in
       let n : i < length (t .slots) = omega (arith, slots-counted expired m₀ b₀ t (q .same) (q .limited)) in
@@ -104,7 +103,7 @@ module _ (m₀ : List ℕ) (b₀ : Bytes m₀) (q : TaskQueues m₀) where
       ∙ record-laid (keptUpTo expired t i) (laid-words (keptUpTo expired t i) (rw e at b)) i (omega (arith, q .limited .slots))
       ∙ ap {B = Semaphore} recordOf (mapped-at (λ s. slotKeeping s expired) i (t .slots) (freeSlot 0))
       in
-      waiting-same r (record-padded (slotOf t (suc i)) few) (filled-tasks (queueIn t i) few (q .numbers i n))
+      queues-same r (record-padded (slotOf t (suc i)) few, filled-tasks (queueIn t i) few (q .numbers i n))
 
 -- ---- the flags tell who still waits
 

@@ -1,8 +1,8 @@
 -- Laws of lists cut or filled to a length, of lists by their values, and of a run of stores.
 use mathlib.Core.Path.{_≡_, refl, sym, ap, _∙_}
 use mathlib.Core.List.{List, [], _∷_, _++_, map}
-use Prim.Native.Nat.{ℕ, zero, suc, _+_, _-_, _≤_, _<_}
-use native.Mathlib.Nat.{not-suc-le-zero, zero-add, suc-add, sub-zero, suc-sub-suc}
+use Prim.Native.Nat.{ℕ, zero, suc, _+_, _≤_, _<_}
+use native.Mathlib.Nat.{not-suc-le-zero, zero-add, suc-add}
 use native.Mathlib.Omega.{arith}
 use lib.ListN.{length, getD, set, take, replicate, length-set}
 use lib.Seq.{sets, set-append-left, ext-getD}
@@ -46,17 +46,6 @@ module _ {A : Type 0} where
   tabulate-is n f xs d e h =
       ext-getD d xs (tabulate n f) (e ∙ sym (length-tabulate n f)) (λ i l. h i (omega arith) ∙ sym (getD-tabulate n f i d (omega arith)))
 
-  -- the first n values, then the m values from n on
-  pub tabulate-add : (n m : ℕ) (f : ℕ → A) → tabulate (n + m) f ≡ tabulate n f ++ tabulate m (λ i. f (n + i))
-  unfolding tabulate
-  tabulate-add zero m f = rw zero-add (tabulate-same m f (λ i. f (zero + i)) (λ i h. rw zero-add refl))
-  tabulate-add (suc n) m f =
-      rw suc-add
-      (ap (λ (r : List A). f zero ∷ r)
-      (tabulate-add n m (λ i. f (suc i))
-      ∙ ap (λ (r : List A). tabulate n (λ i. f (suc i)) ++ r)
-      (tabulate-same m (λ i. f (suc (n + i))) (λ i. f (suc n + i)) (λ i h. rw suc-add refl))))
-
   -- ---- a list cut, or filled up, to n elements
 
   pub fit-tabulate : (n : ℕ) (d : A) (xs : List A) → fit n d xs ≡ tabulate n (λ i. getD xs i d)
@@ -71,14 +60,6 @@ module _ {A : Type 0} where
   -- an element below n is the list's own, or `d` past the list's end
   pub getD-fit : (n : ℕ) (d : A) (xs : List A) (i : ℕ) → i < n → getD (fit n d xs) i d ≡ getD xs i d
   getD-fit n d xs i h = rw fit-tabulate (getD-tabulate n (λ i. getD xs i d) i d h)
-
-  -- nothing to cut
-  pub fit-fill : (n : ℕ) (d : A) (xs : List A) → length xs ≤ n → fit n d xs ≡ xs ++ replicate (n - length xs) d
-  unfolding fit
-  fit-fill zero d [] h = refl
-  fit-fill zero d (x ∷ xs) h = absurd (not-suc-le-zero h)
-  fit-fill (suc n) d [] h = rw sub-zero (ap (λ (r : List A). d ∷ r) (fit-fill n d [] (omega arith) ∙ rw sub-zero refl))
-  fit-fill (suc n) d (x ∷ xs) h = rw suc-sub-suc (ap (λ (r : List A). x ∷ r) (fit-fill n d xs (omega arith)))
 
   -- nothing to cut or fill
   pub fit-all : (n : ℕ) (d : A) (xs : List A) → length xs ≡ n → fit n d xs ≡ xs
@@ -136,13 +117,13 @@ module _ {A : Type 0} where
 
   -- ---- stores
 
-  -- what holds of the element stored and of those before holds of each after
-  pub getD-set-keeps : (P : A → Type 0) (xs : List A) (i : ℕ) (x : A) (k : ℕ) (d : A) → P x → P (getD xs k d) → P (getD (set xs i x) k d)
-  getD-set-keeps P [] i x k d h g = g
-  getD-set-keeps P (y ∷ xs) zero x zero d h g = h
-  getD-set-keeps P (y ∷ xs) zero x (suc k) d h g = g
-  getD-set-keeps P (y ∷ xs) (suc i) x zero d h g = g
-  getD-set-keeps P (y ∷ xs) (suc i) x (suc k) d h g = getD-set-keeps P xs i x k d h g
+  -- a look after a store finds what was stored or what was there
+  pub set-cases : (P : A → Type 0) (xs : List A) (i j : ℕ) (x d : A) → (j ≡ i → P x) → P (getD xs j d) → P (getD (set xs i x) j d)
+  set-cases P [] i j x d f g = g
+  set-cases P (y ∷ xs) zero zero x d f g = f refl
+  set-cases P (y ∷ xs) zero (suc j) x d f g = g
+  set-cases P (y ∷ xs) (suc i) zero x d f g = g
+  set-cases P (y ∷ xs) (suc i) (suc j) x d f g = set-cases P xs i j x d (λ e. f (ap suc e)) g
 
   pub sets-cons : (x : A) (xs : List A) (i : ℕ) (vs : List A) → sets (x ∷ xs) (suc i) vs ≡ x ∷ sets xs i vs
   sets-cons x xs i [] = refl
@@ -171,17 +152,6 @@ module _ {A : Type 0} where
   sets-join xs i (u ∷ us) vs = ap (λ (k : ℕ). sets (sets xs i (u ∷ us)) k vs) (omega arith) ∙ sets-join (set xs i u) (suc i) us vs
 
 module _ {A B : Type 0} (f : A → B) where
-  pub map-fit : (n : ℕ) (d : A) (xs : List A) → map f (fit n d xs) ≡ fit n (f d) (map f xs)
-  unfolding fit
-  map-fit zero d xs = refl
-  map-fit (suc n) d [] = ap (λ (r : List B). f d ∷ r) (map-fit n d [])
-  map-fit (suc n) d (x ∷ xs) = ap (λ (r : List B). f x ∷ r) (map-fit n d xs)
-
-  pub map-tabulate : (n : ℕ) (g : ℕ → A) → map f (tabulate n g) ≡ tabulate n (λ i. f (g i))
-  unfolding tabulate
-  map-tabulate zero g = refl
-  map-tabulate (suc n) g = ap (λ (r : List B). f (g zero) ∷ r) (map-tabulate n (λ i. g (suc i)))
-
   pub map-set : (xs : List A) (i : ℕ) (x : A) → map f (set xs i x) ≡ set (map f xs) i (f x)
   map-set [] i x = refl
   map-set (y ∷ xs) zero x = refl
@@ -192,7 +162,3 @@ module _ {A B : Type 0} (f : A → B) where
   getD-map [] i a b h = absurd (not-suc-le-zero h)
   getD-map (x ∷ xs) zero a b h = refl
   getD-map (x ∷ xs) (suc i) a b h = getD-map xs i a b (omega arith)
-
-  pub map-replicate : (n : ℕ) (a : A) → map f (replicate n a) ≡ replicate n (f a)
-  map-replicate zero a = refl
-  map-replicate (suc n) a = ap (λ (r : List B). f a ∷ r) (map-replicate n a)

@@ -1,13 +1,13 @@
 -- Laws of rows of one width, laid end to end: each is one law over any width.
-use mathlib.Core.Path.{_≡_, refl, sym, ap, ap₂, _∙_}
+use mathlib.Core.Path.{_≡_, refl, sym, ap, _∙_}
 use mathlib.Core.List.{List, [], _∷_, _++_, map}
 use Prim.Native.Nat.{ℕ, zero, suc, _+_, _*_, _≤_, _<_}
 use native.Mathlib.Nat.{not-suc-le-zero, zero-add, mul-zero, mul-suc, mul-le-mul-left}
 use native.Mathlib.Omega.{arith}
-use lib.ListN.{length, getD, set, replicate, length-append, replicate-append-replicate, List·getD-append}
+use lib.ListN.{length, getD, set, length-append, List·getD-append}
 use lib.Seq.{sets, getD-append-add}
-use Rattle.laws.specs.Rows.{tabulate, rows}
-use Rattle.laws.proofs.Fit.{tabulate-add, tabulate-same, sets-left, sets-right, sets-whole}
+use Rattle.laws.specs.Rows.{rows}
+use Rattle.laws.proofs.Fit.{sets-left, sets-right, sets-whole}
 
 -- every row has the width w
 pub data AllWide {A : Type 0} (w : ℕ) : List (List A) → Type 0 where
@@ -70,28 +70,3 @@ module _ {A : Type 0} {w : ℕ} (before : List A) (rs : List (List A)) (after : 
       ∙ sets-right before (rows rs ++ after) (w * i) r
       ∙ ap (λ (x : List A). before ++ x)
       (sets-left (rows rs) after (w * i) r (omega (arith, row-ends)) ∙ ap (λ (x : List A). x ++ after) (sets-rows rs wide i r h l))
-
--- w times n values are n rows of width w
-pub rows-tabulate : {A : Type 0} (w n : ℕ) (f : ℕ → A) → tabulate (w * n) f ≡ rows (tabulate n (λ i. tabulate w (λ j. f (w * i + j))))
-unfolding tabulate rows
-rows-tabulate w zero f = rw mul-zero refl
-rows-tabulate {A} w (suc n) f =
-    let e : w * suc n ≡ w + w * n = rw mul-suc (omega arith) in
-    ap (λ (k : ℕ). tabulate k f) e
-    ∙ tabulate-add w (w * n) f
-    ∙ ap₂ (λ (a b : List A). a ++ b)
-    (tabulate-same w f (λ j. f (w * 0 + j)) (λ j h. ap f (omega arith)))
-    (rows-tabulate w n (λ i. f (w + i))
-    ∙ ap {B = List A} rows
-    (tabulate-same n (λ i. tabulate w (λ j. f (w + (w * i + j)))) (λ i. tabulate w (λ j. f (w * suc i + j)))
-    (λ i h. tabulate-same w (λ j. f (w + (w * i + j))) (λ j. f (w * suc i + j)) (λ j l. ap f (rw mul-suc (omega arith))))))
-
--- rows of `d` alone
-pub rows-replicate : {A : Type 0} (w n : ℕ) (d : A) → rows (replicate n (replicate w d)) ≡ replicate (w * n) d
-unfolding rows
-rows-replicate w zero d = rw mul-zero refl
-rows-replicate {A} w (suc n) d =
-    let e : w + w * n ≡ w * suc n = rw mul-suc (omega arith) in
-    ap (λ (r : List A). replicate w d ++ r) (rows-replicate w n d)
-    ∙ replicate-append-replicate w (w * n) d
-    ∙ ap (λ (k : ℕ). replicate k d) e

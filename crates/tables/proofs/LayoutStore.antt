@@ -70,9 +70,13 @@ laid-unstarted = ap bytesOf zeros ∙ bytesOf-zeros 2690
         ext-getD 0 (layout unstarted) (replicate 2690 0) (length-layout unstarted ∙ sym (length-replicate {A = ℕ} 2690 0))
         (λ k l. zero-word k (omega (arith, length-layout unstarted)) ∙ sym (getD-same 2690 0 k))
 
--- the tables with the first k of their tasks stored, the others still 0, and every slot free
+-- tables with m slots, all free
+abbrev pub allFree : ℕ → List Task → Tables
+allFree m ts = record { tasks = ts; slots = replicate m (freeSlot 0) }
+
+-- and the first k of their tasks stored, the others still 0
 abbrev pub starting : ℕ → List Task → ℕ → Tables
-starting m ts k = record { tasks = fit (length ts) noTask (take k ts); slots = replicate m (freeSlot 0) }
+starting m ts k = allFree m (fit (length ts) noTask (take k ts))
 
 -- with the counts stored over the tables before the start
 pub start-counts : (m : ℕ) (ts : List Task) → sets (laid unstarted) 0 (bytesOf (length ts ∷ m ∷ [])) ≡ laid (starting m ts 0)
@@ -93,8 +97,8 @@ pub start-task : (m : ℕ) (ts : List Task) (k : ℕ) → k < 32 → k < length 
     → sets (laid (starting m ts k)) (4 * taskPlace k) (bytesOf (taskRow (getD ts k noTask))) ≡ laid (starting m ts (suc k))
 start-task m ts k l h =
     store-task-laid (starting m ts k) k (getD ts k noTask) l (rw length-fit h)
-    ∙ ap (λ (x : List Task). laid (record { tasks = x; slots = replicate m (freeSlot 0) })) (set-fit-next (length ts) noTask ts k h)
+    ∙ ap (λ (x : List Task). laid (allFree m x)) (set-fit-next (length ts) noTask ts k h)
 
 -- all of them
-pub start-all : (m : ℕ) (ts : List Task) → starting m ts (length ts) ≡ record { tasks = ts; slots = replicate m (freeSlot 0) }
-start-all m ts = rw (take-length ts) (ap (λ (x : List Task). record { tasks = x; slots = replicate m (freeSlot 0) }) (fit-all (length ts) noTask ts refl))
+pub start-all : (m : ℕ) (ts : List Task) → starting m ts (length ts) ≡ allFree m ts
+start-all m ts = rw (take-length ts) (ap (λ (x : List Task). allFree m x) (fit-all (length ts) noTask ts refl))

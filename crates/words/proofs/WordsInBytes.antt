@@ -26,11 +26,6 @@ Words = Below 4294967296
 
 -- ---- the bytes of words
 
-pub bytesOf-append : (us vs : List ℕ) → bytesOf (us ++ vs) ≡ bytesOf us ++ bytesOf vs
-unfolding bytesOf
-bytesOf-append [] vs = refl
-bytesOf-append (u ∷ us) vs = ap (λ (r : List ℕ). bytesOfWord u ++ r) (bytesOf-append us vs)
-
 pub length-bytesOf : (ws : List ℕ) → length (bytesOf ws) ≡ 4 * length ws
 unfolding bytesOf
 length-bytesOf [] = refl

@@ -2,7 +2,7 @@
 use borrow.Author.Needs.{needs}
 use native.Mathlib.Omega.{arith}
 use Rattle.changes.proofs.Ticks.{slot-quiet, slot-shortened}
-use Rattle.changes.proofs.TickSlots.{waiting-same}
+use Rattle.changes.proofs.TickSlots.{queues-same}
 use Rattle.changes.proofs.tick_slot.Statement.{statement}
 use Rattle.changes.proofs.tick_slot.Tie as tie
 
@@ -24,8 +24,7 @@ load-slot-requires c κs = search needs
 without-requires : tie.Need-without-requires
 without-requires c κs =
     let pre = c .before .before .before .before .before .before .pre in
-    let w = waiting-same (c .load-slot .ensures) (pre .2) (pre .3) in
-    (w .padded, w .numbers)
+    queues-same (c .load-slot .ensures) (pre .2, pre .3)
 
 store-slot-requires : tie.Need-store-slot-requires
 store-slot-requires c κs = search needs

@@ -5,7 +5,7 @@ use Prim.Native.Nat.{_≤_, _-_}
 use native.Mathlib.Omega.{arith}
 use lib.ListN.{length}
 use Rattle.words.proofs.WordsInBytes.{Bytes}
-use Rattle.changes.proofs.TickSlots.{KeptUpTo, kept-more, kept-all, sized, few-slots, record-waiting}
+use Rattle.changes.proofs.TickSlots.{KeptUpTo, kept-more, kept-all, sized, few-slots, record-queues}
 use Rattle.changes.proofs.tick_slots.Statement.{statement}
 use Rattle.changes.proofs.tick_slots.Tie as tie
 
@@ -35,8 +35,8 @@ tick-slot-requires c κs =
     let m₀ = start .before .args .m .now in
     let b₀ : Bytes m₀ = λ k. omega (arith, start .slice-known .given k) in
     let pre = start .before .pre in
-    let w = record-waiting m₀ b₀ pre (start .before .args .expired) (turn .loop .m) (turn .loop .i) (turn .loop .inv .2) (omega (arith, turn .before .slot-count .ensures)) (turn .loop .inv .3) in
-    (omega (arith, sized m₀ b₀ pre), omega (arith, few-slots m₀ b₀ pre, turn .before .slot-count .ensures), w .padded, w .numbers)
+    let w = record-queues m₀ b₀ pre (start .before .args .expired) (turn .loop .m) (turn .loop .i) (turn .loop .inv .2) (omega (arith, turn .before .slot-count .ensures)) (turn .loop .inv .3) in
+    (omega (arith, sized m₀ b₀ pre), omega (arith, few-slots m₀ b₀ pre, turn .before .slot-count .ensures), w .0, w .1)
 
 add-i : tie.Need-add-i Inv-loop μ-loop
 add-i c = search needs

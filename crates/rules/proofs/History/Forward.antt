@@ -4,9 +4,8 @@ use mathlib.Core.Bool.{true, false≢true}
 use mathlib.Core.List.{List, [], _∷_, map}
 use Prim.Native.Nat.{ℕ, pred, _≤_, _<_}
 use native.Mathlib.Omega.{arith}
-use native.Mathlib.Decide.{ℕ-discrete, decLt}
 use lib.ListN.{length, getD, set, length-set, List·getD-map}
-use lib.Seq.{getD-set-same, getD-set-other, set-out}
+use Rattle.laws.proofs.Fit.{set-cases}
 use Rattle.rules.specs.Machine.{Slot, Tables, freeSlot, slotOf, putSlot, isLive}
 use Rattle.rules.specs.Calls.{wakeAll, stillWaiting, tickedSlot}
 
@@ -52,14 +51,6 @@ forward-trans a b = record { sameSize = cc; onward = λ n. onward-trans (a .onwa
 pub forward-slots : {t t′ : Tables} (u : Tables) → u .slots ≡ t′ .slots → Forward t t′ → Forward t u
 forward-slots {t} {t′} u e f =
     subst (λ (l : List Slot). Forward t (record { tasks = u .tasks; slots = l })) (sym e) (record { sameSize = f .sameSize; onward = f .onward })
-
--- a look after a put finds what was put or what was there
-pub set-cases : {A : Type 0} (P : A → Type 0) (l : List A) (i j : ℕ) (a d : A) → (j ≡ i → P a) → P (getD l j d) → P (getD (set l i a) j d)
-set-cases P l i j a d f g = elim (ℕ-discrete j i) [ yes e ↦ here e (decLt j (length l)) | no o ↦ rw (getD-set-other l i j a d o) g ]
-  where
-    here : j ≡ i → Dec (j < length l) → P (getD (set l i a) j d)
-    here e (yes b) = subst (λ (k : ℕ). P (getD (set l k a) j d)) e (rw (getD-set-same l j a d b) (f e))
-    here e (no o) = rw (set-out l i a (omega arith)) g
 
 pub forward-put : (t : Tables) (n : ℕ) (s : Slot) → Onward (slotOf t n) s → Forward t (putSlot t n s)
 forward-put t n s o = record {

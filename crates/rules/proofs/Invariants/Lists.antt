@@ -5,13 +5,14 @@ use mathlib.Core.List.{List, [], _∷_, map}
 use mathlib.Core.Logic.{⊎-elim, _≢_}
 use Prim.Native.Nat.{ℕ, zero, suc, pred, _+_, _≤_, _<_}
 use native.Mathlib.Omega.{arith}
-use native.Mathlib.Decide.{ℕ-discrete, decLt}
+use native.Mathlib.Decide.{ℕ-discrete}
 use native.Mathlib.Nat.{not-suc-le-zero, le-of-suc-le-suc}
 use lib.Dec.{leb, eqb}
 use lib.ListN.{length, getD, set, drop, List·getD-map}
-use lib.Seq.{getD-set-same, getD-set-other, set-out}
+use lib.Seq.{getD-set-same, getD-set-other}
 use borrow.Author.Tests.{leb-true, leb-false, eqb-true, eq-eqb}
 use Rattle.laws.specs.Choose.{bit}
+use Rattle.laws.proofs.Fit.{set-cases}
 use Rattle.laws.proofs.Choose.{tested, if-yes, if-no, never, choose-cases}
 use Rattle.rules.specs.Agreement.{occurs}
 use Rattle.rules.specs.Semaphore.{ahead, insertAt}
@@ -19,22 +20,9 @@ use Rattle.rules.specs.Semaphore.{ahead, insertAt}
 -- ---- places
 
 module _ {A : Type 0} where
-  -- a replaced place holds the new value, the others what they held
-  pub set-cases : (P : ℕ → A → Type 0) (l : List A) (i : ℕ) (a d : A) (j : ℕ) → i < length l → (j ≡ i → P j a) → (j ≢ i → P j (getD l j d))
-      → P j (getD (set l i a) j d)
-  set-cases P l i a d j h same other =
-      elim (ℕ-discrete j i) [
-        | yes e ↦ subst (λ (k : ℕ). P k (getD (set l i a) k d)) (sym e) (rw getD-set-same (rw e at (same e)))
-        | no n ↦ rw getD-set-other (other n)
-      ]
-
   -- what holds of every place holds of every place after one is replaced
   pub set-all : (P : A → Type 0) (l : List A) (i : ℕ) (a d : A) → ((j : ℕ) → P (getD l j d)) → P a → (j : ℕ) → P (getD (set l i a) j d)
-  set-all P l i a d all new j =
-      elim (decLt i (length l)) [
-        | yes h ↦ set-cases (λ k. P) l i a d j h (λ e. new) (λ n. all j)
-        | no n ↦ let out : length l ≤ i = omega arith in rw (set-out l i a out) (all j)
-      ]
+  set-all P l i a d all new j = set-cases P l i j a d (λ e. new) (all j)
 
   -- a function that keeps the value outside
   pub getD-map : (f : A → A) (l : List A) (j : ℕ) (d : A) → f d ≡ d → getD (map f l) j d ≡ f (getD l j d)
