@@ -43,7 +43,8 @@ module _ (expired : List Bool) where
         slots = omega (arith, h .slots);
         queues =
             λ j l.
-            mapped-keeps (λ s. slotKeeping s expired) (λ s. length (s .queue) ≤ 32) (λ s k. omega (arith, length-keep expired (s .queue))) i (t .slots) j (freeSlot 0)
+            mapped-keeps (λ s. slotKeeping s expired) (λ s. length (s .queue) ≤ 32) (λ s k. omega (arith, length-keep expired (s .queue))) i (t .slots) j
+            (freeSlot 0)
             (h .queues j (omega arith));
       }
 

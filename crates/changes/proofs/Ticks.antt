@@ -51,9 +51,12 @@ module _ (v : Task) where
   pub ticked-forever : v .answer ≡ 100 → v .ticks ≡ 0 → v ≡ ticked v
   unfolding ticked
   ticked-forever h e =
-      sym (if-no _ _ (sym (expires-waiting h) ∙ ne-eqb (v .ticks) 1 (omega arith)) ∙ if-no _ _ (if-eq (v .answer) 100 _ _ h ∙ lt-leb 2 (v .ticks) (omega arith)))
+      sym
+      (if-no _ _ (sym (expires-waiting h) ∙ ne-eqb (v .ticks) 1 (omega arith))
+      ∙ if-no _ _ (if-eq (v .answer) 100 _ _ h ∙ lt-leb 2 (v .ticks) (omega arith)))
 
-  pub ticked-later : v .answer ≡ 100 → 2 ≤ v .ticks → record { priority = v .priority; answer = v .answer; awaited = v .awaited; ticks = v .ticks - 1 } ≡ ticked v
+  pub ticked-later : v .answer ≡ 100 → 2 ≤ v .ticks
+      → record { priority = v .priority; answer = v .answer; awaited = v .awaited; ticks = v .ticks - 1 } ≡ ticked v
   unfolding ticked
   ticked-later h e =
       sym (if-no _ _ (sym (expires-waiting h) ∙ ne-eqb (v .ticks) 1 (omega arith)) ∙ if-yes _ _ (both-and (eq-eqb (v .answer) 100 h) (le-leb 2 (v .ticks) e)))
@@ -95,7 +98,9 @@ module _ (m₀ : List ℕ) (b₀ : Bytes m₀) where
       let t′ : Tables = tickedUpTo t i in
       let n : i < length (t .tasks) = omega (arith, count-laid t (laid-words t (rw e at b₀)), ap (λ (x : List ℕ). wordAt x 0) e) in
       let n′ : i < length (t′ .tasks) = omega (arith, length-mapped ticked i (t .tasks)) in
-      let old : v ≡ getD (t .tasks) i noTask = u ∙ ap (λ (x : List ℕ). taskAt x i) (s t e) ∙ task-laid t′ (laid-words t′ (rw (s t e) at b)) i l ∙ mapped-at ticked i (t .tasks) noTask in
+      let old : v ≡ getD (t .tasks) i noTask =
+      u ∙ ap (λ (x : List ℕ). taskAt x i) (s t e) ∙ task-laid t′ (laid-words t′ (rw (s t e) at b)) i l ∙ mapped-at ticked i (t .tasks) noTask
+      in
       w
       ∙ ap₂ (λ (x : List ℕ) (y : Task). sets x (4 * taskPlace i) (bytesOf (taskRow y))) (s t e) (f ∙ ap ticked old)
       ∙ store-task-laid t′ i (ticked (getD (t .tasks) i noTask)) l n′
@@ -141,7 +146,9 @@ module _ (m : List ℕ) (i : ℕ) (expired : List Bool) (b : Bytes m) (l : i < 6
       → m′ ≡ sets m (4 * slotPlace i) (bytesOf (recordRow rest))
       → (t : Tables) → m ≡ laid t → Limited t → i < length (t .slots) → m′ ≡ laid (slotTicked t i expired)
   slot-shortened m′ s rest r k w t e h n =
-      let old : slotFrom s ≡ slotOf t (suc i) = ap {B = Slot} slotFrom (r ∙ ap (λ (x : List ℕ). recordAt x i) e) ∙ slotAt-laid t (limited-holds t h (rw e at b)) i l in
+      let old : slotFrom s ≡ slotOf t (suc i) =
+      ap {B = Slot} slotFrom (r ∙ ap (λ (x : List ℕ). recordAt x i) e) ∙ slotAt-laid t (limited-holds t h (rw e at b)) i l
+      in
       w
       ∙ ap (λ (x : List ℕ). sets x (4 * slotPlace i) (bytesOf (recordRow rest))) e
       ∙ store-slot-laid t i rest l n (k .padded)

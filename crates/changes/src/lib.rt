@@ -33,7 +33,8 @@ pub fn put_task(m: &mut [u8], q: u32, v: Task)
 
 pub fn put_slot(m: &mut [u8], n: u32, s: Semaphore)
     requires { ⌜ (length (now m) ≡ tablesLength) × (1 ≤ n) × (n ≤ 64) ⌝ }
-    ensures { λ _. ⌜ ((t : Tables) (slot : Slot) → now (m .entry) ≡ laid t → Stands s slot → n ≤ length (t .slots) → now (m .exit) ≡ laid (putSlot t n slot)) ⌝ }
+    ensures { λ _. ⌜ ((t : Tables) (slot : Slot) → now (m .entry) ≡ laid t → Stands s slot → n ≤ length (t .slots)
+        → now (m .exit) ≡ laid (putSlot t n slot)) ⌝ }
 {
     tables::store_slot(m, n as usize - 1, s);
 }
@@ -50,8 +51,10 @@ pub fn wake(m: &mut [u8], q: u32, answer: u32)
 
 // The first `waiters` tasks of a queue are woken with that answer, in queue order.
 pub fn wake_all(m: &mut [u8], queue: [u32; 32], waiters: usize, answer: u32)
-    requires { ⌜ (length (now m) ≡ tablesLength) × (waiters ≤ 32) × ((k : ℕ) → k < waiters → 1 ≤ getD queue k 0) × ((k : ℕ) → k < waiters → getD queue k 0 ≤ 32) ⌝ }
-    ensures { λ _. ⌜ ((t : Tables) → now (m .entry) ≡ laid t → ((k : ℕ) → k < waiters → getD queue k 0 ≤ length (t .tasks)) → now (m .exit) ≡ laid (wakeAll t (take waiters queue) answer)) ⌝ }
+    requires { ⌜ (length (now m) ≡ tablesLength) × (waiters ≤ 32)
+        × ((k : ℕ) → k < waiters → 1 ≤ getD queue k 0) × ((k : ℕ) → k < waiters → getD queue k 0 ≤ 32) ⌝ }
+    ensures { λ _. ⌜ ((t : Tables) → now (m .entry) ≡ laid t → ((k : ℕ) → k < waiters → getD queue k 0 ≤ length (t .tasks))
+        → now (m .exit) ≡ laid (wakeAll t (take waiters queue) answer)) ⌝ }
 {
     let mut k = 0;
     while k < waiters {
@@ -133,8 +136,10 @@ fn expired(m: &[u8]) -> [bool; 32]
 
 // The slot at i, its queue without the tasks whose wait has ended. Nothing is loaded where nobody waits.
 fn tick_slot(m: &mut [u8], i: usize, expired: [bool; 32])
-    requires { ⌜ (length (now m) ≡ tablesLength) × (i < 64) × Padded (recordAt (now m) i) × TasksOnly (recordAt (now m) i .waiters) (recordAt (now m) i .queue) ⌝ }
-    ensures { λ _. ⌜ ((t : Tables) → now (m .entry) ≡ laid t → Limited t → i < length (t .slots) → now (m .exit) ≡ laid (putSlot t (suc i) (slotKeeping (slotOf t (suc i)) expired))) ⌝ }
+    requires { ⌜ (length (now m) ≡ tablesLength) × (i < 64) × Padded (recordAt (now m) i)
+        × TasksOnly (recordAt (now m) i .waiters) (recordAt (now m) i .queue) ⌝ }
+    ensures { λ _. ⌜ ((t : Tables) → now (m .entry) ≡ laid t → Limited t → i < length (t .slots)
+        → now (m .exit) ≡ laid (putSlot t (suc i) (slotKeeping (slotOf t (suc i)) expired))) ⌝ }
 {
     if tables::slot_waiters(m, i) == 0 {
         return;

@@ -94,7 +94,8 @@ module _ (queue : List ℕ) (place q : ℕ) (len : length queue ≡ 32) (fits : 
       sym (insert-behind q place queue (k - 1) (omega arith) (omega arith))
       ∙ ap (λ (j : ℕ). getD (insertAt place q queue) j 0) back
 
-  pub shift-next : (out : List ℕ) (k : ℕ) → place < k → k < 32 → out ≡ take k (insertAt place q queue) ++ drop k queue → set out k (getD queue (k - 1) 0) ≡ take (k + 1) (insertAt place q queue) ++ drop (k + 1) queue
+  pub shift-next : (out : List ℕ) (k : ℕ) → place < k → k < 32 → out ≡ take k (insertAt place q queue) ++ drop k queue
+      → set out k (getD queue (k - 1) 0) ≡ take (k + 1) (insertAt place q queue) ++ drop (k + 1) queue
   shift-next out k h l e =
       let w : length (insertAt place q queue) ≡ suc (length queue) = length-insert q place queue (omega arith) in
       rw (e, behind k h, add-one) (replace-next queue (insertAt place q queue) k (omega arith) (omega arith))
@@ -127,7 +128,8 @@ module _ (queue out : List ℕ) (k : ℕ) (len : length queue ≡ 32) (filled : 
 
 -- ---- some are left out
 
-swap-choices : (a b : Bool) (x q : ℕ) (ks : List ℕ) → choose a (choose b ks (ks ++ q ∷ [])) (x ∷ choose b ks (ks ++ q ∷ [])) ≡ choose b (choose a ks (x ∷ ks)) (choose a ks (x ∷ ks) ++ q ∷ [])
+swap-choices : (a b : Bool) (x q : ℕ) (ks : List ℕ)
+    → choose a (choose b ks (ks ++ q ∷ [])) (x ∷ choose b ks (ks ++ q ∷ [])) ≡ choose b (choose a ks (x ∷ ks)) (choose a ks (x ∷ ks) ++ q ∷ [])
 unfolding choose
 swap-choices true true x q ks = refl
 swap-choices true false x q ks = refl
@@ -151,7 +153,8 @@ module _ (expired : List Bool) where
       (λ e. omega (arith, length-keep xs))
 
 -- the tasks left out are those whose wait a tick ends
-pub keep-waiting : (t : Tables) (expired : List Bool) (qs : List ℕ) → ((k : ℕ) → k < length qs → getD expired (pred (getD qs k 0)) false ≡ expires (taskOf t (getD qs k 0))) → keep expired qs ≡ stillWaiting t qs
+pub keep-waiting : (t : Tables) (expired : List Bool) (qs : List ℕ)
+    → ((k : ℕ) → k < length qs → getD expired (pred (getD qs k 0)) false ≡ expires (taskOf t (getD qs k 0))) → keep expired qs ≡ stillWaiting t qs
 unfolding keep stillWaiting
 keep-waiting t expired [] h = refl
 keep-waiting t expired (q ∷ qs) h =
@@ -171,7 +174,9 @@ module _ {expired : List Bool} {queue out : List ℕ} {n k : ℕ} (passed : Pass
   pub passed-few : n ≤ k
   passed-few = omega (arith, passed .count, length-keep expired (take k queue), length-take k queue)
 
-  one-more : k < length queue → keep expired (take (k + 1) queue) ≡ choose (getD expired (getD queue k 0 - 1) false) (keep expired (take k queue)) (keep expired (take k queue) ++ getD queue k 0 ∷ [])
+  one-more : k < length queue
+      → keep expired (take (k + 1) queue)
+      ≡ choose (getD expired (getD queue k 0 - 1) false) (keep expired (take k queue)) (keep expired (take k queue) ++ getD queue k 0 ∷ [])
   one-more h =
       rw add-one
       (ap (keep expired) (take-suc queue k 0 h) ∙ keep-append expired (take k queue) (getD queue k 0) ∙ rw sub-one refl)
@@ -181,7 +186,8 @@ module _ {expired : List Bool} {queue out : List ℕ} {n k : ℕ} (passed : Pass
       let same : keep expired (take (k + 1) queue) ≡ keep expired (take k queue) = one-more h ∙ if-yes _ _ e in
       record { count = rw same (passed .count); filled = rw same (passed .filled) }
 
-  pub passed-stays : k < length queue → n < 32 → getD expired (getD queue k 0 - 1) false ≡ false → Passed expired queue (set out n (getD queue k 0)) (n + 1) (k + 1)
+  pub passed-stays : k < length queue → n < 32 → getD expired (getD queue k 0 - 1) false ≡ false
+      → Passed expired queue (set out n (getD queue k 0)) (n + 1) (k + 1)
   passed-stays h few e =
       let more : keep expired (take (k + 1) queue) ≡ keep expired (take k queue) ++ getD queue k 0 ∷ [] = one-more h ∙ if-no _ _ e in
       record {

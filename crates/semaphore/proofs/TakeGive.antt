@@ -35,14 +35,16 @@ heldBy s caller = isBinary (s .attributes) and ownedBy s caller
 pub stands-itself : {s : Semaphore} → Padded s → Stands s (slotFrom s)
 stands-itself p = record { same = refl; padded = p }
 
-pub stands-count : {s : Semaphore} {slot : Slot} → Stands s slot → (count owner nest : ℕ) → Stands (withCount s count owner nest) (rules.counted slot count owner nest (slot .queue))
+pub stands-count : {s : Semaphore} {slot : Slot} → Stands s slot → (count owner nest : ℕ)
+    → Stands (withCount s count owner nest) (rules.counted slot count owner nest (slot .queue))
 stands-count st count owner nest =
     record {
       same = ap (λ (t : Slot). rules.counted t count owner nest (t .queue)) (st .same);
       padded = record { few = st .padded .few; filled = st .padded .filled };
     }
 
-pub stands-queue : (s : Semaphore) (w : ℕ) (queue qs : List ℕ) → queue ≡ fit 32 0 qs → w ≡ length qs → length qs ≤ 32 → Stands (withQueue s w queue) (requeued (slotFrom s) qs)
+pub stands-queue : (s : Semaphore) (w : ℕ) (queue qs : List ℕ) → queue ≡ fit 32 0 qs → w ≡ length qs → length qs ≤ 32
+    → Stands (withQueue s w queue) (requeued (slotFrom s) qs)
 stands-queue s w queue qs e l few =
     let same : take w queue ≡ qs = rw e (held 32 0 qs w l few) in
     record {
@@ -61,7 +63,8 @@ module _ (s : Semaphore) (p : Padded s) where
       let full : length (s .queue) ≡ 32 = ap length (p .filled) ∙ length-fit 32 0 (waitersOf s) in
       omega (arith, length-take (s .waiters) (s .queue), p .few)
 
-  pub stands-joined : (place q : ℕ) (queue : List ℕ) → s .waiters < 32 → place ≤ s .waiters → queue ≡ fit 32 0 (insertAt place q (s .queue)) → Stands (withQueue s (s .waiters + 1) queue) (requeued (slotFrom s) (insertAt place q (waitersOf s)))
+  pub stands-joined : (place q : ℕ) (queue : List ℕ) → s .waiters < 32 → place ≤ s .waiters → queue ≡ fit 32 0 (insertAt place q (s .queue))
+      → Stands (withQueue s (s .waiters + 1) queue) (requeued (slotFrom s) (insertAt place q (waitersOf s)))
   stands-joined place q queue h l e =
       let more : length (insertAt place q (waitersOf s)) ≡ _ = length-insert q place (waitersOf s) (omega (arith, length-queue)) in
       stands-queue s (s .waiters + 1) queue (insertAt place q (waitersOf s))
@@ -71,7 +74,8 @@ module _ (s : Semaphore) (p : Padded s) where
       (omega (arith, length-queue))
       (omega (arith, length-queue))
 
-  pub stands-left : (queue : List ℕ) → queue ≡ fit 32 0 (drop 1 (s .queue)) → Stands (withQueue s (s .waiters - 1) queue) (requeued (slotFrom s) (drop 1 (waitersOf s)))
+  pub stands-left : (queue : List ℕ) → queue ≡ fit 32 0 (drop 1 (s .queue))
+      → Stands (withQueue s (s .waiters - 1) queue) (requeued (slotFrom s) (drop 1 (waitersOf s)))
   stands-left queue e =
       let less : length (drop 1 (waitersOf s)) ≡ _ = length-drop 1 (waitersOf s) in
       stands-queue s (s .waiters - 1) queue (drop 1 (waitersOf s))
@@ -83,7 +87,8 @@ module _ (s : Semaphore) (p : Padded s) where
 
 -- ---- take
 
-pub took : {s : Semaphore} {status : ℕ} {slot : Slot} {rule : rules.Taken} → rule ≡ record { status = status; slot = slot } → Stands s slot → TakenIs (record { status = status; semaphore = s }) rule
+pub took : {s : Semaphore} {status : ℕ} {slot : Slot} {rule : rules.Taken} → rule ≡ record { status = status; slot = slot } → Stands s slot
+    → TakenIs (record { status = status; semaphore = s }) rule
 took {s} e st =
     record {
       status = ap (λ (r : rules.Taken). r .status) (sym e);
@@ -91,13 +96,15 @@ took {s} e st =
     }
 
 module _ (s : Slot) (caller place : ℕ) (wait : Wait) where
-  pub take-owned : 1 ≤ s .count → isBinary (s .attributes) ≡ true → takeStep s caller place wait ≡ record { status = 0; slot = rules.counted s (s .count - 1) caller 1 (s .queue) }
+  pub take-owned : 1 ≤ s .count → isBinary (s .attributes) ≡ true
+      → takeStep s caller place wait ≡ record { status = 0; slot = rules.counted s (s .count - 1) caller 1 (s .queue) }
   unfolding takeStep
   take-owned h b =
       if-le _ _ _ _ h
       ∙ (λ i. record { status = 0; slot = rules.counted s (s .count - 1) (if-yes caller (s .owner) b i) (if-yes 1 (s .nest) b i) (s .queue) })
 
-  pub take-passed : 1 ≤ s .count → isBinary (s .attributes) ≡ false → takeStep s caller place wait ≡ record { status = 0; slot = rules.counted s (s .count - 1) (s .owner) (s .nest) (s .queue) }
+  pub take-passed : 1 ≤ s .count → isBinary (s .attributes) ≡ false
+      → takeStep s caller place wait ≡ record { status = 0; slot = rules.counted s (s .count - 1) (s .owner) (s .nest) (s .queue) }
   unfolding takeStep
   take-passed h b =
       if-le _ _ _ _ h
@@ -108,7 +115,8 @@ module _ (s : Slot) (caller place : ℕ) (wait : Wait) where
     unfolding takeStep
     take-full own h = if-not-le _ _ _ _ none ∙ if-yes _ _ own ∙ if-eq _ _ _ _ h
 
-    pub take-nested : heldBy s caller ≡ true → (s .nest ≡ 4294967295 → ⊥) → takeStep s caller place wait ≡ record { status = 0; slot = rules.counted s (s .count) (s .owner) (s .nest + 1) (s .queue) }
+    pub take-nested : heldBy s caller ≡ true → (s .nest ≡ 4294967295 → ⊥)
+        → takeStep s caller place wait ≡ record { status = 0; slot = rules.counted s (s .count) (s .owner) (s .nest + 1) (s .queue) }
     unfolding takeStep
     take-nested own h = if-not-le _ _ _ _ none ∙ if-yes _ _ own ∙ if-ne _ _ _ _ h
 
@@ -116,7 +124,8 @@ module _ (s : Slot) (caller place : ℕ) (wait : Wait) where
     unfolding takeStep
     take-refused own h = if-not-le _ _ _ _ none ∙ if-no _ _ own ∙ if-yes _ _ h
 
-    pub take-waits : heldBy s caller ≡ false → polls wait ≡ false → takeStep s caller place wait ≡ record { status = 100; slot = requeued s (insertAt place caller (s .queue)) }
+    pub take-waits : heldBy s caller ≡ false → polls wait ≡ false
+        → takeStep s caller place wait ≡ record { status = 100; slot = requeued s (insertAt place caller (s .queue)) }
     unfolding takeStep
     take-waits own h = if-not-le _ _ _ _ none ∙ if-no _ _ own ∙ if-no _ _ h
 
@@ -140,7 +149,8 @@ module _ (s : Slot) (caller : ℕ) where
 
 -- ---- give
 
-pub gave : {s : Semaphore} {status woken : ℕ} {slot : Slot} {rule : rules.Given} → rule ≡ record { status = status; slot = slot; woken = woken } → Stands s slot → GivenIs (record { status = status; woken = woken; semaphore = s }) rule
+pub gave : {s : Semaphore} {status woken : ℕ} {slot : Slot} {rule : rules.Given} → rule ≡ record { status = status; slot = slot; woken = woken }
+    → Stands s slot → GivenIs (record { status = status; woken = woken; semaphore = s }) rule
 gave {s} e st =
     record {
       status = ap (λ (r : rules.Given). r .status) (sym e);
@@ -153,24 +163,27 @@ given-as {r} e g = subst (λ (o : rules.Given). GivenIs r o) (sym e) g
 
 module _ (s : Slot) where
   module _ (some : 1 ≤ length (s .queue)) (first : ℕ) (at : getD (s .queue) 0 0 ≡ first) where
-    pub pass-owned : isBinary (s .attributes) ≡ true → passStep s ≡ record { status = 0; slot = rules.counted s (s .count) first 1 (drop 1 (s .queue)); woken = first }
+    passes : {owner owner′ nest nest′ : ℕ} → owner ≡ owner′ → nest ≡ nest′
+        → _≡_ {A = rules.Given} (record { status = 0; slot = rules.counted s (s .count) owner nest (drop 1 (s .queue)); woken = getD (s .queue) 0 0 })
+        (record { status = 0; slot = rules.counted s (s .count) owner′ nest′ (drop 1 (s .queue)); woken = first })
+    passes o n = λ i. record { status = 0; slot = rules.counted s (s .count) (o i) (n i) (drop 1 (s .queue)); woken = at i }
+
+    pub pass-owned : isBinary (s .attributes) ≡ true
+        → passStep s ≡ record { status = 0; slot = rules.counted s (s .count) first 1 (drop 1 (s .queue)); woken = first }
     unfolding passStep
-    pass-owned b =
-        if-le _ _ _ _ some
-        ∙ (λ i. record { status = 0; slot = rules.counted s (s .count) ((if-yes (getD (s .queue) 0 0) (s .owner) b ∙ at) i) (if-yes 1 (s .nest) b i) (drop 1 (s .queue)); woken = at i })
+    pass-owned b = if-le _ _ _ _ some ∙ passes (if-yes (getD (s .queue) 0 0) (s .owner) b ∙ at) (if-yes 1 (s .nest) b)
 
     pub pass-handed : isBinary (s .attributes) ≡ false → passStep s ≡ record { status = 0; slot = requeued s (drop 1 (s .queue)); woken = first }
     unfolding passStep
-    pass-handed b =
-        if-le _ _ _ _ some
-        ∙ (λ i. record { status = 0; slot = rules.counted s (s .count) (if-no (getD (s .queue) 0 0) (s .owner) b i) (if-no 1 (s .nest) b i) (drop 1 (s .queue)); woken = at i })
+    pass-handed b = if-le _ _ _ _ some ∙ passes (if-no (getD (s .queue) 0 0) (s .owner) b) (if-no 1 (s .nest) b)
 
   module _ (none : length (s .queue) < 1) where
     pub pass-full : s .count ≡ maximum (s .attributes) → passStep s ≡ record { status = 13; slot = s; woken = 0 }
     unfolding passStep
     pass-full h = if-not-le _ _ _ _ none ∙ if-eq _ _ _ _ h
 
-    pub pass-raised : (s .count ≡ maximum (s .attributes) → ⊥) → passStep s ≡ record { status = 0; slot = rules.counted s (s .count + 1) 0 0 (s .queue); woken = 0 }
+    pub pass-raised : (s .count ≡ maximum (s .attributes) → ⊥)
+        → passStep s ≡ record { status = 0; slot = rules.counted s (s .count + 1) 0 0 (s .queue); woken = 0 }
     unfolding passStep
     pass-raised h = if-not-le _ _ _ _ none ∙ if-ne _ _ _ _ h
 

@@ -9,7 +9,8 @@ ghost use Rattle.rules.specs.Machine.{freeSlot};
 ghost use Rattle.rules.specs.Semaphore.{insertAt, ownedBy, polls, takeStep, passStep, giveStep, flushStep};
 ghost use Rattle.rules.specs.Calls.{newSemaphore};
 ghost use Rattle.rules.specs.Numbers.{isBinary, maximum};
-ghost use Rattle.semaphore.specs.Record.{slotFrom, recordOf, withCount, withQueue, Padded, TasksOnly, Stands, TakenIs, GivenIs, FlushedIs, keep, KeptIs, slotKeeping};
+ghost use Rattle.semaphore.specs.Record.{slotFrom, recordOf, withCount, withQueue, Padded, TasksOnly};
+ghost use Rattle.semaphore.specs.Record.{Stands, TakenIs, GivenIs, FlushedIs, keep, KeptIs, slotKeeping};
 
 pub struct Semaphore {
     pub generation: u32,

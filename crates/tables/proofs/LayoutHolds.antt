@@ -1,13 +1,11 @@
 -- Tables that a layout can hold: shown row by row, of bytes, and what it says of the bytes.
-use mathlib.Core.Path.{_≡_}
 use mathlib.Core.List.{List}
 use Prim.Native.Nat.{ℕ, zero, suc, _≤_, _<_}
 use native.Mathlib.Omega.{arith}
-use native.Mathlib.Decide.{decLt}
-use lib.ListN.{length, getD, List·getD-eq-default}
+use lib.ListN.{length, getD}
 use Rattle.laws.specs.Rows.{fit}
 use Rattle.laws.proofs.Fit.{length-fit, getD-fit}
-use Rattle.words.proofs.WordsInBytes.{Bytes, Words, bytes-below}
+use Rattle.words.proofs.WordsInBytes.{Bytes, Words, words-within, bytes-below}
 use Rattle.rules.specs.declared.Task.{Task}
 use Rattle.rules.specs.Machine.{Slot, Tables, noTask, freeSlot}
 use Rattle.tables.specs.Codec.{taskRow, slotRow}
@@ -26,14 +24,6 @@ pub holds-bytes : (t : Tables) → length (t .tasks) ≤ 32 → length (t .slots
 holds-bytes t n m q b = limited-holds t (record { tasks = n; slots = m; queues = q }) b
 
 -- ---- rows of words below 2 ^ 32
-
--- what is so of the first n elements is so of all: 0 is a word
-words-within : (n : ℕ) (xs : List ℕ) → length xs ≡ n → ((k : ℕ) → k < n → getD xs k 0 < 4294967296) → Words xs
-words-within n xs e h k =
-    elim (decLt k n) [
-      | yes l ↦ h k l
-      | no d ↦ let past : length xs ≤ k = omega arith in omega (arith, List·getD-eq-default xs 0 past)
-    ]
 
 pub task-row-words : (v : Task) → v .priority < 4294967296 → v .answer < 4294967296 → v .awaited < 4294967296 → v .ticks < 4294967296 → Words (taskRow v)
 task-row-words v p a w t zero = p

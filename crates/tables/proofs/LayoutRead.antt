@@ -8,7 +8,7 @@ use lib.ListN.{length, getD, List·getD-eq-default}
 use Rattle.laws.specs.Rows.{fit, tabulate}
 use Rattle.laws.proofs.Fit.{take-fit, length-tabulate, getD-tabulate, tabulate-is, tabulate-same, tabulate-getD}
 use Rattle.words.specs.Words.{wordAt}
-use Rattle.words.proofs.WordsInBytes.{Bytes, Words, words-below, length-bytesOf, wordAt-bytesOf, wordAt-below}
+use Rattle.words.proofs.WordsInBytes.{Bytes, Words, words-within, words-below, length-bytesOf, wordAt-bytesOf, wordAt-below}
 use Rattle.rules.specs.declared.Task.{Task}
 use Rattle.rules.specs.Machine.{Slot, Tables, noTask, freeSlot}
 use Rattle.rules.specs.Semaphore.{requeued}
@@ -45,11 +45,9 @@ slot-row bs i = refl
 -- `record-below bs b i 0` is that the generation of slot i is below 2 ^ 32, and so on in the order of the row
 module _ (bs : List ℕ) (b : Bytes bs) where
   row-below : (at n : ℕ) → Words (rowAt bs at n)
-  row-below at n k =
-      elim (decLt k n) [
-        | yes l ↦ rw (getD-tabulate n (λ j. wordAt bs (at + j)) k 0 l) (wordAt-below bs b (at + k))
-        | no d ↦ let past : length (rowAt bs at n) ≤ k = omega (arith, length-tabulate n (λ j. wordAt bs (at + j))) in omega (arith, List·getD-eq-default (rowAt bs at n) 0 past)
-      ]
+  row-below at n =
+      words-within n (rowAt bs at n) (length-tabulate n (λ j. wordAt bs (at + j)))
+      (λ k l. rw (getD-tabulate n (λ j. wordAt bs (at + j)) k 0 l) (wordAt-below bs b (at + k)))
 
   pub task-below : (i : ℕ) → Words (taskRow (taskAt bs i))
   task-below i k = omega (arith, ap (λ (r : List ℕ). getD r k 0) (task-row bs i), row-below (taskPlace i) 4 k)
@@ -124,11 +122,13 @@ module _ (t : Tables) (h : Holds t) where
       tasks : tabulate (wordAt (laid t) 0) (taskAt (laid t)) ≡ t .tasks
       tasks =
           ap (λ (n : ℕ). tabulate n (taskAt (laid t))) laid-tasks
-          ∙ tabulate-same (length (t .tasks)) (taskAt (laid t)) (λ i. getD (t .tasks) i noTask) (λ i l. task-laid t (h .words) i (omega (arith, h .limited .tasks)))
+          ∙ tabulate-same (length (t .tasks)) (taskAt (laid t)) (λ i. getD (t .tasks) i noTask)
+          (λ i l. task-laid t (h .words) i (omega (arith, h .limited .tasks)))
           ∙ tabulate-getD (t .tasks) noTask
 
       slots : tabulate (wordAt (laid t) 1) (λ i. slotFrom (recordAt (laid t) i)) ≡ t .slots
       slots =
           ap (λ (n : ℕ). tabulate n (λ i. slotFrom (recordAt (laid t) i))) laid-slots
-          ∙ tabulate-same (length (t .slots)) (λ i. slotFrom (recordAt (laid t) i)) (λ i. getD (t .slots) i (freeSlot 0)) (λ i l. slotAt-laid i (omega (arith, h .limited .slots)))
+          ∙ tabulate-same (length (t .slots)) (λ i. slotFrom (recordAt (laid t) i)) (λ i. getD (t .slots) i (freeSlot 0))
+          (λ i l. slotAt-laid i (omega (arith, h .limited .slots)))
           ∙ tabulate-getD (t .slots) (freeSlot 0)

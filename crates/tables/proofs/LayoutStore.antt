@@ -15,7 +15,8 @@ use Rattle.semaphore.specs.declared.Semaphore.{Semaphore}
 use Rattle.semaphore.specs.Record.{slotFrom, Padded}
 use Rattle.tables.specs.Codec.{taskRow, slotRow, recordRow}
 use Rattle.tables.specs.Layout.{tablesLength, taskPlace, slotPlace, layout, laid}
-use Rattle.tables.proofs.LayoutWords.{words, taskPlaces, slotPlaces, tasks-long, slots-long, set-task, set-slot, no-slot-word, length-layout, length-slotRow, task-word, slot-word, by-place}
+use Rattle.tables.proofs.LayoutWords.{words, taskPlaces, slotPlaces, tasks-long, slots-long, set-task}
+use Rattle.tables.proofs.LayoutWords.{set-slot, no-slot-word, length-layout, length-slotRow, task-word, slot-word, by-place}
 
 -- a row stored in the bytes is stored in the words
 store-words : (t : Tables) (k : ℕ) (r : List ℕ) → k + length r ≤ 2690 → sets (laid t) (4 * k) (bytesOf r) ≡ bytesOf (sets (layout t) k r)
@@ -38,7 +39,8 @@ store-slot-row t i s l h =
     store-words t (slotPlace i) (slotRow s) (omega (arith, length-slotRow s))
     ∙ ap bytesOf
     (set-slot (taskPlaces t) (slotPlaces t) (tasks-long t) (slots-long t) (length (t .tasks)) (length (t .slots)) i s l
-    ∙ ap₂ (λ (m : ℕ) (ss : List Slot). words (length (t .tasks)) m (taskPlaces t) ss) (sym (length-set (t .slots) i s)) (set-fit 64 (freeSlot 0) (t .slots) i s h))
+    ∙ ap₂ (λ (m : ℕ) (ss : List Slot). words (length (t .tasks)) m (taskPlaces t) ss) (sym (length-set (t .slots) i s))
+    (set-fit 64 (freeSlot 0) (t .slots) i s h))
 
 -- a padded record has the words of the slot that it stands for
 pub record-row : (s : Semaphore) → Padded s → recordRow s ≡ slotRow (slotFrom s)

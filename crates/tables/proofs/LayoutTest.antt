@@ -145,7 +145,9 @@ module _ (bs : List ℕ) (p : Passed bs) where
             let w : ℕ = recordAt bs i .waiters in
             let places : length (recordAt bs i .queue) ≡ 32 = rw (← queue-row bs i) (length-tabulate 32 (λ k. wordAt bs (slotPlace i + 8 + k))) in
             let behind : (k : ℕ) → w ≤ k → k < 32 → getD (recordAt bs i .queue) k 0 ≡ 0 =
-            λ k a b. sym (queue-word bs i k b) ∙ blank-at bs (slotPlace i + 8 + w) (slotPlace i + 40) (and-both _ _ e .1) (slotPlace i + 8 + k) (omega arith) (omega arith)
+            λ k a b.
+            sym (queue-word bs i k b)
+            ∙ blank-at bs (slotPlace i + 8 + w) (slotPlace i + 40) (and-both _ _ e .1) (slotPlace i + 8 + k) (omega arith) (omega arith)
             in
             record { few = leb-true w 32 (a .0); filled = fit-take 32 0 w (recordAt bs i .queue) places behind }
 

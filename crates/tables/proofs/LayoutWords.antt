@@ -54,7 +54,8 @@ module _ (ts : List Task) (ss : List Slot) (e : length ts ≡ 32) (f : length ss
   module _ (i : ℕ) where
     getD-task : (j : ℕ) → i < 32 → j < 4 → getD (words n m ts ss) (taskPlace i + j) 0 ≡ getD (taskRow (getD ts i noTask)) j 0
     getD-task j h l =
-        getD-between (n ∷ m ∷ []) (map taskRow ts) (rows (map slotRow ss)) wide-tasks i (omega (arith, length-map ts taskRow)) (taskPlace i + j) j 0 (omega arith) l
+        getD-between (n ∷ m ∷ []) (map taskRow ts) (rows (map slotRow ss)) wide-tasks i (omega (arith, length-map ts taskRow)) (taskPlace i + j) j 0
+        (omega arith) l
         ∙ ap (λ (r : List ℕ). getD r j 0) (getD-map taskRow ts i noTask [] (omega arith))
 
     getD-slot : (j : ℕ) → i < 64 → j < 40 → getD (words n m ts ss) (slotPlace i + j) 0 ≡ getD (slotRow (getD ss i (freeSlot 0))) j 0
@@ -66,14 +67,16 @@ module _ (ts : List Task) (ss : List Slot) (e : length ts ≡ 32) (f : length ss
 
     pub set-task : (v : Task) → i < 32 → sets (words n m ts ss) (taskPlace i) (taskRow v) ≡ words n m (set ts i v) ss
     set-task v h =
-        sets-between (n ∷ m ∷ []) (map taskRow ts) (rows (map slotRow ss)) wide-tasks i (omega (arith, length-map ts taskRow)) (taskPlace i) (taskRow v) (omega arith) refl
+        sets-between (n ∷ m ∷ []) (map taskRow ts) (rows (map slotRow ss)) wide-tasks i (omega (arith, length-map ts taskRow)) (taskPlace i) (taskRow v)
+        (omega arith) refl
         ∙ ap (λ (x : List (List ℕ)). n ∷ m ∷ rows x ++ rows (map slotRow ss)) (sym (map-set taskRow ts i v))
 
     pub set-slot : (s : Slot) → i < 64 → sets (words n m ts ss) (slotPlace i) (slotRow s) ≡ words n m ts (set ss i s)
     unfolding before
     set-slot s h =
         ap (λ (x : List ℕ). sets x (slotPlace i) (slotRow s)) (ended (map slotRow ss))
-        ∙ sets-between before (map slotRow ss) [] wide-slots i (omega (arith, length-map ss slotRow)) (slotPlace i) (slotRow s) (omega (arith, length-tasks)) (length-slotRow s)
+        ∙ sets-between before (map slotRow ss) [] wide-slots i (omega (arith, length-map ss slotRow)) (slotPlace i) (slotRow s)
+        (omega (arith, length-tasks)) (length-slotRow s)
         ∙ sym (ended (set (map slotRow ss) i (slotRow s)))
         ∙ ap (λ (x : List (List ℕ)). before ++ rows x) (sym (map-set slotRow ss i s))
 

@@ -4,9 +4,10 @@ use mathlib.Core.Bool.{true}
 use mathlib.Core.List.{List, [], _∷_, _++_}
 use Prim.Native.Nat.{ℕ, zero, suc, _+_, _-_, _*_, _/_, _%_, _≤_, _<_}
 use native.Mathlib.Nat.{not-suc-le-zero}
+use native.Mathlib.Decide.{decLt}
 use native.Mathlib.Omega.{arith}
 use lib.Dec.{eqb}
-use lib.ListN.{length, getD, set, length-set, replicate, replicate-append-replicate}
+use lib.ListN.{length, getD, set, length-set, replicate, replicate-append-replicate, List·getD-eq-default}
 use lib.Seq.{sets}
 use borrow.Author.Tests.{eq-eqb, eqb-true}
 use Rattle.laws.proofs.All.{all-at, all-of}
@@ -23,6 +24,14 @@ Bytes = Below 256
 
 abbrev pub Words : List ℕ → Type 0
 Words = Below 4294967296
+
+-- what is so of the first n elements is so of all: 0 is a word
+pub words-within : (n : ℕ) (xs : List ℕ) → length xs ≡ n → ((k : ℕ) → k < n → getD xs k 0 < 4294967296) → Words xs
+words-within n xs e h k =
+    elim (decLt k n) [
+      | yes l ↦ h k l
+      | no d ↦ let past : length xs ≤ k = omega arith in omega (arith, List·getD-eq-default xs 0 past)
+    ]
 
 -- ---- the bytes of words
 
@@ -48,7 +57,8 @@ unfolding wordAt
 wordAt-suc a b c d bs i =
     let m : List ℕ = a ∷ b ∷ c ∷ d ∷ bs in
     let at : (j k : ℕ) → j ≡ suc (suc (suc (suc k))) → getD m j 0 ≡ getD bs k 0 = λ j k e. ap (λ (n : ℕ). getD m n 0) e in
-    cc (at (4 * suc i) (4 * i) (omega arith), at (4 * suc i + 1) (4 * i + 1) (omega arith), at (4 * suc i + 2) (4 * i + 2) (omega arith), at (4 * suc i + 3) (4 * i + 3) (omega arith))
+    let byte : (j : ℕ) → getD m (4 * suc i + j) 0 ≡ getD bs (4 * i + j) 0 = λ j. at (4 * suc i + j) (4 * i + j) (omega arith) in
+    cc (at (4 * suc i) (4 * i) (omega arith), byte 1, byte 2, byte 3)
 
 wordAt-first : (w : ℕ) (bs : List ℕ) → w < 4294967296 → wordAt (bytesOfWord w ++ bs) 0 ≡ w
 unfolding wordAt
@@ -143,9 +153,12 @@ bytes-words (suc n) (a ∷ b ∷ c ∷ d ∷ bs) h e =
 pub blank-at : (bs : List ℕ) (from to : ℕ) → blank bs from to ≡ true → (k : ℕ) → from ≤ k → k < to → wordAt bs k ≡ 0
 unfolding blank
 blank-at bs from to e k l h =
-    let z : wordAt bs (from + (k - from)) ≡ 0 = eqb-true (wordAt bs (from + (k - from))) 0 (all-at (to - from) (λ k. eqb (wordAt bs (from + k)) 0) e (k - from) (omega arith)) in
+    let z : wordAt bs (from + (k - from)) ≡ 0 =
+    eqb-true (wordAt bs (from + (k - from))) 0 (all-at (to - from) (λ k. eqb (wordAt bs (from + k)) 0) e (k - from) (omega arith))
+    in
     ap (wordAt bs) (omega arith) ∙ z
 
 pub blank-of : (bs : List ℕ) (from to : ℕ) → ((k : ℕ) → from ≤ k → k < to → wordAt bs k ≡ 0) → blank bs from to ≡ true
 unfolding blank
-blank-of bs from to f = all-of (to - from) (λ k. eqb (wordAt bs (from + k)) 0) (λ k h. eq-eqb (wordAt bs (from + k)) 0 (f (from + k) (omega arith) (omega arith)))
+blank-of bs from to f =
+    all-of (to - from) (λ k. eqb (wordAt bs (from + k)) 0) (λ k h. eq-eqb (wordAt bs (from + k)) 0 (f (from + k) (omega arith) (omega arith)))

@@ -40,8 +40,15 @@ loop-again : tie.Need-loop-again Inv-loop μ-loop
 loop-again c =
     let turn = c .before .before .before in
     let m = turn .before .before .args .m .now in
-    let read = flag-read m (turn .loop .i) _ _ (λ k. omega (arith, turn .before .shared-slice-known .given k)) (omega arith) (c .before .load-task .ensures) (c .expires .ensures) in
-    (omega arith, simp length-set (omega arith), λ t e. filled-more _ false (turn .loop .flags) (turn .loop .i) _ (omega arith) (read t e) (turn .loop .inv .2 t e))
+    let read =
+    flag-read m (turn .loop .i) _ _ (λ k. omega (arith, turn .before .shared-slice-known .given k)) (omega arith) (c .before .load-task .ensures)
+    (c .expires .ensures)
+    in (
+      omega arith,
+      simp length-set (omega arith),
+      λ t e.
+          filled-more _ false (turn .loop .flags) (turn .loop .i) _ (omega arith) (read t e) (turn .loop .inv .2 t e),
+    )
 
 returns : tie.Need-returns Inv-loop μ-loop
 returns c =

@@ -47,7 +47,8 @@ loop-again c =
     let first = turn .before .before .before .before .before .before .before .args in (
       omega arith,
       omega (arith, c .before .before .store-task .kept),
-      started-more (turn .before .before .before .store-counts .last .0) (first .slots) (first .priorities .now) (turn .loop .m) _ (turn .loop .i) _ (omega arith) (omega arith)
+      started-more (turn .before .before .before .store-counts .last .0) (first .slots) (first .priorities .now) (turn .loop .m) _ (turn .loop .i) _
+          (omega arith) (omega arith)
           (c .before .before .before .before .new-task .ensures) (c .before .before .store-task .ensures) (turn .loop .inv .2),
     )
 
@@ -57,7 +58,8 @@ same-length c = search needs
 returns : tie.Need-returns Inv-loop μ-loop
 returns c =
     let first = c .before .before .before .before .before .before .before .before .args in
-    started-all _ (first .slots) (first .priorities .now) _ (c .before .loop .i) (omega arith) (c .before .loop .inv .2) (first .m .now) (c .before .before .before .before .store-counts .ensures)
+    started-all _ (first .slots) (first .priorities .now) _ (c .before .loop .i) (omega arith) (c .before .loop .inv .2) (first .m .now)
+    (c .before .before .before .before .store-counts .ensures)
 
 pub start-tables-spec : {M : Type 1} → statement M
 start-tables-spec =

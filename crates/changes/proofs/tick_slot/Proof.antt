@@ -16,7 +16,8 @@ returns : tie.Need-returns
 returns c =
     let start = c .before .before .before in
     let first = start .before .args in
-    slot-quiet (first .m .now) (first .i) (first .expired) (λ k. omega (arith, start .slice-known .given k)) (omega arith) _ (c .before .slot-waiters .ensures) (omega arith)
+    slot-quiet (first .m .now) (first .i) (first .expired) (λ k. omega (arith, start .slice-known .given k)) (omega arith) _
+    (c .before .slot-waiters .ensures) (omega arith)
 
 load-slot-requires : tie.Need-load-slot-requires
 load-slot-requires c κs = search needs

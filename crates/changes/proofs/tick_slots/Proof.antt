@@ -35,7 +35,10 @@ tick-slot-requires c κs =
     let m₀ = start .before .args .m .now in
     let b₀ : Bytes m₀ = λ k. omega (arith, start .slice-known .given k) in
     let pre = start .before .pre in
-    let w = record-queues m₀ b₀ pre (start .before .args .expired) (turn .loop .m) (turn .loop .i) (turn .loop .inv .2) (omega (arith, turn .before .slot-count .ensures)) (turn .loop .inv .3) in
+    let w =
+    record-queues m₀ b₀ pre (start .before .args .expired) (turn .loop .m) (turn .loop .i) (turn .loop .inv .2)
+    (omega (arith, turn .before .slot-count .ensures)) (turn .loop .inv .3)
+    in
     (omega (arith, sized m₀ b₀ pre), omega (arith, few-slots m₀ b₀ pre, turn .before .slot-count .ensures), w .0, w .1)
 
 add-i : tie.Need-add-i Inv-loop μ-loop
@@ -53,7 +56,8 @@ loop-again c =
       omega arith,
       omega (arith, c .before .before .tick-slot .kept),
       λ k. omega (arith, c .slice-known2 .given k),
-      kept-more (start .before .args .expired) m₀ b₀ (turn .loop .m) _ (turn .loop .i) (omega (arith, turn .before .slot-count .ensures)) (turn .loop .inv .3) (c .before .before .tick-slot .ensures),
+      kept-more (start .before .args .expired) m₀ b₀ (turn .loop .m) _ (turn .loop .i) (omega (arith, turn .before .slot-count .ensures))
+          (turn .loop .inv .3) (c .before .before .tick-slot .ensures),
     )
 
 same-length : tie.Need-same-length Inv-loop μ-loop

@@ -22,7 +22,11 @@ tick-tasks-requires c κs =
     let m₀ = start .before .args .m .now in
     let b₀ : Bytes m₀ = λ k. omega (arith, start .slice-known .given k) in
     let pre = start .before .pre in
-    (omega (arith, sized m₀ b₀ pre, slots .tick-slots .kept), few-tasks m₀ _ (flags .expired .result) (flags .expired .ensures) (slots .tick-slots .ensures) (λ k. omega (arith, c .before .slice-known2 .given k)) pre)
+    let few =
+    few-tasks m₀ _ (flags .expired .result) (flags .expired .ensures) (slots .tick-slots .ensures)
+    (λ k. omega (arith, c .before .slice-known2 .given k)) pre
+    in
+    (omega (arith, sized m₀ b₀ pre, slots .tick-slots .kept), few)
 
 same-length : tie.Need-same-length
 same-length c = search needs

@@ -52,7 +52,8 @@ loop-again c =
       omega arith,
       omega (arith, c .before .before .store-task .kept),
       λ k. omega (arith, c .slice-known2 .given k),
-      ticked-more m₀ b₀ (turn .loop .m) _ (turn .loop .i) _ _ (turn .loop .inv .2) (omega (arith, n, start .before .pre)) (omega (arith, n)) (step .before .load-task .ensures) (step .ticked .ensures) (c .before .before .store-task .ensures) (turn .loop .inv .3),
+      ticked-more m₀ b₀ (turn .loop .m) _ (turn .loop .i) _ _ (turn .loop .inv .2) (omega (arith, n, start .before .pre)) (omega (arith, n))
+          (step .before .load-task .ensures) (step .ticked .ensures) (c .before .before .store-task .ensures) (turn .loop .inv .3),
     )
 
 same-length : tie.Need-same-length Inv-loop μ-loop

@@ -47,7 +47,10 @@ returns c =
     let turn = c .before .before .before .before .before .loop in
     let h : turn .i < wordAt bs 1 = omega arith in
     let l : turn .i < length (modelOf bs .slots) = omega (arith, length-slots bs) in
-    let t = named-test bs (turn .i) h _ _ (first .name) _ (c .before .before .before .slot-live .ensures) (c .before .before .slot-name .ensures) (c .before .is-named .ensures) ∙ c .if1 .taken in
+    let t =
+    named-test bs (turn .i) h _ _ (first .name) _ (c .before .before .before .slot-live .ensures) (c .before .before .slot-name .ensures)
+    (c .before .is-named .ensures) ∙ c .if1 .taken
+    in
     look-found (firstNamed (first .name)) (isNamed (first .name)) (searches-named (first .name)) (modelOf bs .slots) (turn .i) l (turn .inv .2) t
 
 add-i : tie.Need-add-i Inv-loop μ-loop
@@ -63,14 +66,21 @@ loop-again c =
     let turn = c .before .before .before .before .before .loop in
     let h : turn .i < wordAt bs 1 = omega arith in
     let l : turn .i < length (modelOf bs .slots) = omega (arith, length-slots bs) in
-    let t = named-test bs (turn .i) h _ _ (first .name) _ (c .before .before .before .slot-live .ensures) (c .before .before .slot-name .ensures) (c .before .is-named .ensures) ∙ c .if1 .left in
-    (omega arith, turn .inv .1, look-more (firstNamed (first .name)) (isNamed (first .name)) (searches-named (first .name)) (modelOf bs .slots) (turn .i) l (turn .inv .2) t)
+    let t =
+    named-test bs (turn .i) h _ _ (first .name) _ (c .before .before .before .slot-live .ensures) (c .before .before .slot-name .ensures)
+    (c .before .is-named .ensures) ∙ c .if1 .left
+    in
+    let more =
+    look-more (firstNamed (first .name)) (isNamed (first .name)) (searches-named (first .name)) (modelOf bs .slots) (turn .i) l (turn .inv .2) t
+    in
+    (omega arith, turn .inv .1, more)
 
 returns-2 : tie.Need-returns-2 Inv-loop μ-loop
 returns-2 c =
     let first = c .before .before .before .before .args in
     let bs = first .m .now in
-    look-all (firstNamed (first .name)) (isNamed (first .name)) (searches-named (first .name)) (modelOf bs .slots) (c .before .loop .i) (omega (arith, length-slots bs)) (c .before .loop .inv .2)
+    look-all (firstNamed (first .name)) (isNamed (first .name)) (searches-named (first .name)) (modelOf bs .slots) (c .before .loop .i)
+    (omega (arith, length-slots bs)) (c .before .loop .inv .2)
 
 pub first-named-spec : {M : Type 1} → statement M
 first-named-spec =

@@ -47,7 +47,10 @@ returns c =
     let turn = c .before .before .before .before .before .loop in
     let h : turn .i < wordAt bs 1 = omega arith in
     let l : turn .i < length (modelOf bs .slots) = omega (arith, length-slots bs) in
-    let t = open-test bs (turn .i) h _ _ _ (c .before .before .before .slot-live .ensures) (c .before .before .slot-generation .ensures) (c .before .is-open .ensures) ∙ c .if1 .taken in
+    let t =
+    open-test bs (turn .i) h _ _ _ (c .before .before .before .slot-live .ensures) (c .before .before .slot-generation .ensures)
+    (c .before .is-open .ensures) ∙ c .if1 .taken
+    in
     look-found firstFree isOpen searches-open (modelOf bs .slots) (turn .i) l (turn .inv .2) t
 
 add-i : tie.Need-add-i Inv-loop μ-loop
@@ -63,7 +66,10 @@ loop-again c =
     let turn = c .before .before .before .before .before .loop in
     let h : turn .i < wordAt bs 1 = omega arith in
     let l : turn .i < length (modelOf bs .slots) = omega (arith, length-slots bs) in
-    let t = open-test bs (turn .i) h _ _ _ (c .before .before .before .slot-live .ensures) (c .before .before .slot-generation .ensures) (c .before .is-open .ensures) ∙ c .if1 .left in
+    let t =
+    open-test bs (turn .i) h _ _ _ (c .before .before .before .slot-live .ensures) (c .before .before .slot-generation .ensures)
+    (c .before .is-open .ensures) ∙ c .if1 .left
+    in
     (omega arith, turn .inv .1, look-more firstFree isOpen searches-open (modelOf bs .slots) (turn .i) l (turn .inv .2) t)
 
 returns-2 : tie.Need-returns-2 Inv-loop μ-loop

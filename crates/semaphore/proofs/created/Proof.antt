@@ -36,7 +36,8 @@ unfolding fit
 returns-3 c =
     let call = c .before .before .before .before .args in
     let binary = sym (c .before .before .before .is-binary .ensures) ∙ not-false _ (c .before .before .if1 .left) in
-    stands-as (c .with-count .ensures) (new-owned (call .generation) (call .caller) (call .name) (call .count) (call .attributes) (both-and binary (eq-eqb _ _ (c .before .if2 .left))))
+    stands-as (c .with-count .ensures)
+    (new-owned (call .generation) (call .caller) (call .name) (call .count) (call .attributes) (both-and binary (eq-eqb _ _ (c .before .if2 .left))))
 
 pub created-spec : {M : Type 1} → statement M
 created-spec =

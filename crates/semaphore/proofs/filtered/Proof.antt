@@ -11,7 +11,8 @@ use Rattle.semaphore.proofs.filtered.Statement.{statement}
 use Rattle.semaphore.proofs.filtered.Tie as tie
 
 abbrev Inv-loop : tie.InvT-loop
-Inv-loop waiters queue expired out₀ n₀ k₀ out n k = (length queue ≡ 32) × (length out ≡ 32) × (length expired ≡ 32) × (k ≤ waiters) × Passed expired queue out n k
+Inv-loop waiters queue expired out₀ n₀ k₀ out n k =
+    (length queue ≡ 32) × (length out ≡ 32) × (length expired ≡ 32) × (k ≤ waiters) × Passed expired queue out n k
 
 abbrev μ-loop : tie.MeasureT-loop
 μ-loop waiters queue expired out₀ n₀ k₀ out n k = waiters - k
@@ -33,7 +34,8 @@ sub-i : tie.Need-sub-i Inv-loop μ-loop
 sub-i c = omega (arith, c .before .before .pre .1 .low (c .before .loop .k) (omega arith))
 
 array-read-gone : tie.Need-array-read-gone Inv-loop μ-loop
-array-read-gone c = omega (arith, c .before .before .pre .1 .high (c .before .loop .k) (omega arith), c .before .before .pre .1 .low (c .before .loop .k) (omega arith))
+array-read-gone c =
+    omega (arith, c .before .before .pre .1 .high (c .before .loop .k) (omega arith), c .before .before .pre .1 .low (c .before .loop .k) (omega arith))
 
 add-k : tie.Need-add-k Inv-loop μ-loop
 add-k c = search needs
@@ -60,7 +62,9 @@ loop-less-2 : tie.Need-loop-less-2 Inv-loop μ-loop
 loop-less-2 c = search needs
 
 loop-again-2 : tie.Need-loop-again-2 Inv-loop μ-loop
-loop-again-2 c = (search needs, search needs, search needs, search needs, passed-stays (c .before .before .loop .inv .4) (omega arith) (omega (arith, passed-few (c .before .before .loop .inv .4))) (c .if1 .left))
+loop-again-2 c =
+    let inv = c .before .before .loop .inv .4 in
+    (search needs, search needs, search needs, search needs, passed-stays inv (omega arith) (omega (arith, passed-few inv)) (c .if1 .left))
 
 cast-t21 : tie.Need-cast-t21 Inv-loop μ-loop
 cast-t21 c = omega (arith, passed-few (c .before .loop .inv .4))

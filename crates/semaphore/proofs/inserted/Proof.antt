@@ -11,7 +11,8 @@ use Rattle.semaphore.proofs.inserted.Statement.{statement}
 use Rattle.semaphore.proofs.inserted.Tie as tie
 
 abbrev Inv-loop : tie.InvT-loop
-Inv-loop place q queue out₀ k₀ out k = (length queue ≡ 32) × (length out ≡ 32) × (place < k) × (k ≤ 32) × (out ≡ take k (insertAt place q queue) ++ drop k queue)
+Inv-loop place q queue out₀ k₀ out k =
+    (length queue ≡ 32) × (length out ≡ 32) × (place < k) × (k ≤ 32) × (out ≡ take k (insertAt place q queue) ++ drop k queue)
 
 abbrev μ-loop : tie.MeasureT-loop
 μ-loop place q queue out₀ k₀ out k = 32 - k
@@ -53,7 +54,9 @@ loop-again : tie.Need-loop-again Inv-loop μ-loop
 loop-again c =
     let call = c .before .before .args in
     let loop = c .before .loop in
-    let next = shift-next (call .t1) (call .place) (call .q) (loop .inv .0) (c .before .before .pre) (loop .out) (loop .k) (omega arith) (omega arith) (loop .inv .4) in
+    let next =
+    shift-next (call .t1) (call .place) (call .q) (loop .inv .0) (c .before .before .pre) (loop .out) (loop .k) (omega arith) (omega arith) (loop .inv .4)
+    in
     (search needs, search needs, search needs, search needs, next)
 
 returns : tie.Need-returns Inv-loop μ-loop

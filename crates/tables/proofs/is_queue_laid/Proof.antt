@@ -37,7 +37,8 @@ is-blank-requires c κs = search needs
 returns-2 : tie.Need-returns-2
 returns-2 c =
     let first = c .before .before .before .before .args in
-    queue-within (first .m .now) (first .i) (c .before .before .slot-waiters .result) (c .before .before .slot-waiters .ensures) _ (omega arith) (c .is-blank .ensures)
+    queue-within (first .m .now) (first .i) (c .before .before .slot-waiters .result) (c .before .before .slot-waiters .ensures) _ (omega arith)
+    (c .is-blank .ensures)
 
 pub is-queue-laid-spec : {M : Type 1} → statement M
 is-queue-laid-spec =

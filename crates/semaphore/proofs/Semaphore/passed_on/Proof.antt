@@ -4,7 +4,8 @@ use mathlib.Core.Path.{sym, _∙_}
 use native.Mathlib.Omega.{arith}
 use lib.Seq.{getD-take}
 use Rattle.semaphore.specs.Record.{slotFrom}
-use Rattle.semaphore.proofs.TakeGive.{stands-itself, stands-count, stands-as, stands-left, length-queue, gave, pass-owned, pass-handed, pass-full, pass-raised}
+use Rattle.semaphore.proofs.TakeGive.{stands-itself, stands-count, stands-as, stands-left, length-queue}
+use Rattle.semaphore.proofs.TakeGive.{gave, pass-owned, pass-handed, pass-full, pass-raised}
 use Prim.Native.Nat.{_≤_, _<_}
 use lib.ListN.{length}
 use Rattle.semaphore.proofs.Semaphore.passed_on.Statement.{statement}
@@ -35,7 +36,9 @@ returns c =
     let binary = sym (c .before .before .is-binary .ensures) ∙ c .before .if2 .taken in
     gave (pass-owned (slotFrom s) some _ first binary)
     (stands-as (c .with-count .ensures)
-    (stands-count (stands-as (c .before .before .before .with-queue .ensures) (stands-left s p _ (c .before .before .before .before .before .advanced .ensures))) _ _ _))
+    (stands-count
+    (stands-as (c .before .before .before .with-queue .ensures) (stands-left s p _ (c .before .before .before .before .before .advanced .ensures)))
+    _ _ _))
 
 returns-2 : tie.Need-returns-2
 returns-2 c =

@@ -2,7 +2,8 @@
 use borrow.Author.Needs.{needs}
 use mathlib.Core.Path.{sym, _∙_}
 use Rattle.semaphore.specs.Record.{slotFrom}
-use Rattle.semaphore.proofs.TakeGive.{stands-itself, stands-count, stands-as, stands-joined, took, take-owned, take-passed, take-full, take-nested, take-refused, take-waits}
+use Rattle.semaphore.proofs.TakeGive.{stands-itself, stands-count, stands-as, stands-joined, took}
+use Rattle.semaphore.proofs.TakeGive.{take-owned, take-passed, take-full, take-nested, take-refused, take-waits}
 use Rattle.semaphore.proofs.Semaphore.take.Statement.{statement}
 use Rattle.semaphore.proofs.Semaphore.take.Tie as tie
 
@@ -89,7 +90,9 @@ returns-6 c =
     let start = c .before .before .before .before .before .before .before .before .before .before in
     let call = start .args in
     let none = c .before .before .before .before .before .before .before .before .if1 .left in
-    let holds = sym (c .before .before .before .before .before .before .before .is-held-by .ensures) ∙ c .before .before .before .before .before .before .if3 .left in
+    let holds =
+    sym (c .before .before .before .before .before .before .before .is-held-by .ensures) ∙ c .before .before .before .before .before .before .if3 .left
+    in
     let polling = sym (c .before .before .before .before .before .polls .ensures) ∙ c .before .before .before .before .if5 .left in
     took (take-waits (slotFrom (call .self)) (call .caller) (call .place) (call .wait) none holds polling)
     (stands-as (c .with-queue .ensures)
