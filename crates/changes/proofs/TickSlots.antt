@@ -22,7 +22,7 @@ use Rattle.semaphore.proofs.Queue.{length-keep, keep-waiting}
 use Rattle.tables.specs.Layout.{tablesLength, laid, recordAt}
 use Rattle.tables.proofs.LayoutRead.{laid-words, limited-holds, record-padded, count-laid, record-laid, laid-slots, length-laid}
 use Rattle.tables.specs.Sizes.{Limited}
-use Rattle.changes.specs.Tick.{queueIn, TaskQueues, expiring, tickedTables}
+use Rattle.changes.specs.Tick.{waitersIn, TaskQueues, expiring, tickedTables}
 use Rattle.laws.proofs.Mapped.{mapped, length-mapped, mapped-at, mapped-next, mapped-all, mapped-keeps}
 use Rattle.changes.proofs.Ticks.{flag-of, slotTicked}
 
@@ -98,13 +98,13 @@ module _ (m₀ : List ℕ) (b₀ : Bytes m₀) (q : TaskQueues m₀) where
       let t : Tables = q .model in
       let e : m ≡ laid (keptUpTo expired t i) = k t (q .same) (q .limited) in
       let n : i < length (t .slots) = omega (arith, slots-counted expired m₀ b₀ t (q .same) (q .limited)) in
-      let few : length (queueIn t i) ≤ 32 = q .limited .queues i n in
+      let few : length (waitersIn t i) ≤ 32 = q .limited .queues i n in
       let r : recordAt m i ≡ recordOf (slotOf t (suc i)) =
       ap (λ (x : List ℕ). recordAt x i) e
       ∙ record-laid (keptUpTo expired t i) (laid-words (keptUpTo expired t i) (rw e at b)) i (omega (arith, q .limited .slots))
       ∙ ap {B = Semaphore} recordOf (mapped-at (λ s. slotKeeping s expired) i (t .slots) (freeSlot 0))
       in
-      queues-same r (record-padded (slotOf t (suc i)) few, filled-tasks (queueIn t i) few (q .numbers i n))
+      queues-same r (record-padded (slotOf t (suc i)) few, filled-tasks (waitersIn t i) few (q .numbers i n))
 
 -- ---- the flags tell who still waits
 

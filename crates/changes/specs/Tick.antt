@@ -12,15 +12,15 @@ use Rattle.tables.specs.Layout.{laid}
 use Rattle.tables.specs.Sizes.{Limited}
 
 -- the queue of the slot at i, counted from 0
-abbrev pub queueIn : Tables → ℕ → List ℕ
-queueIn t i = slotOf t (suc i) .queue
+abbrev pub waitersIn : Tables → ℕ → List ℕ
+waitersIn t i = slotOf t (suc i) .queue
 
 -- bytes of tables within their limits, with numbers of tasks in their queues
 pub record TaskQueues (bs : List ℕ) : Type 0 where
   pub model : Tables
   pub same : bs ≡ laid model
   pub limited : Limited model
-  pub numbers : (i : ℕ) → i < length (model .slots) → TasksOnly (length (queueIn model i)) (queueIn model i)
+  pub numbers : (i : ℕ) → i < length (model .slots) → TasksOnly (length (waitersIn model i)) (waitersIn model i)
 
 -- of task q at q - 1, and false beyond the last task
 unfoldable pub expiring : Tables → List Bool

@@ -22,11 +22,11 @@ use Rattle.semaphore.specs.declared.Semaphore.{Semaphore}
 use Rattle.semaphore.specs.Record.{slotFrom, Padded}
 use Rattle.tables.specs.Codec.{taskRow, taskFrom, recordFrom, slotRow}
 use Rattle.tables.specs.Layout.{tablesLength, taskPlace, slotPlace, layout, laid, rowAt, taskAt, recordAt, modelOf, isQueueLaid, isLaid}
-use Rattle.tables.specs.Sizes.{Limited, Holds, IsLayout}
+use Rattle.tables.specs.Sizes.{Bounded, Limited, Holds, IsLayout}
 use Rattle.tables.proofs.LayoutWords.{no-slot-word, length-layout, task-word, slot-word, by-place}
 use Rattle.tables.proofs.LayoutRead.{length-laid, limited-holds, task-row, slot-row, queue-few, word-laid, record-laid, laid-tasks, laid-slots}
 use Rattle.tables.proofs.LayoutStore.{record-row}
-use Rattle.tables.proofs.LoadStore.{queue-row, queue-word}
+use Rattle.tables.proofs.LoadStore.{queue-places, queue-word}
 
 -- ---- a layout passes the test
 
@@ -111,6 +111,16 @@ passed bs e =
       past-slots = blank-at bs (slotPlace (wordAt bs 1)) 2690 (f .1);
     }
 
+-- so the bytes can be read
+pub laid-bounded : (bs : List ℕ) → isLaid bs ≡ true → Bounded bs
+unfolding isQueueLaid
+laid-bounded bs e =
+    let p = passed bs e in
+    record {
+      sized = record { long = p .size; tasks = p .few-tasks; slots = p .few-slots };
+      queues = λ i h. leb-true (recordAt bs i .waiters) 32 (and-both _ _ (p .queues i h) .0);
+    }
+
 -- a row of zeros
 row-zero : (bs : List ℕ) (at n : ℕ) → ((j : ℕ) → j < n → wordAt bs (at + j) ≡ 0) → rowAt bs at n ≡ replicate n 0
 row-zero bs at n z =
@@ -143,13 +153,12 @@ module _ (bs : List ℕ) (p : Passed bs) where
         within e =
             let a = and-both _ _ e in
             let w : ℕ = recordAt bs i .waiters in
-            let places : length (recordAt bs i .queue) ≡ 32 = rw (← queue-row bs i) (length-tabulate 32 (λ k. wordAt bs (slotPlace i + 8 + k))) in
             let behind : (k : ℕ) → w ≤ k → k < 32 → getD (recordAt bs i .queue) k 0 ≡ 0 =
             λ k a b.
             sym (queue-word bs i k b)
             ∙ blank-at bs (slotPlace i + 8 + w) (slotPlace i + 40) (and-both _ _ e .1) (slotPlace i + 8 + k) (omega arith) (omega arith)
             in
-            record { few = leb-true w 32 (a .0); filled = fit-take 32 0 w (recordAt bs i .queue) places behind }
+            record { few = leb-true w 32 (a .0); filled = fit-take 32 0 w (recordAt bs i .queue) (queue-places bs i) behind }
 
   -- each word is that of the layout
   words-read : (k : ℕ) → k < 2690 → getD (layout (modelOf bs)) k 0 ≡ wordAt bs k

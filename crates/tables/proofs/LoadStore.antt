@@ -12,7 +12,7 @@ use Rattle.laws.specs.Choose.{_and_}
 use Rattle.laws.proofs.Choose.{if-yes, if-no}
 use Rattle.laws.specs.All.{all}
 use Rattle.laws.specs.Rows.{tabulate}
-use Rattle.laws.proofs.Fit.{getD-tabulate, tabulate-same, sets-join}
+use Rattle.laws.proofs.Fit.{length-tabulate, getD-tabulate, tabulate-same, sets-join}
 use Rattle.words.specs.Words.{bytesOf, wordAt, blank}
 use Rattle.rules.specs.declared.Task.{Task}
 use Rattle.semaphore.specs.declared.Semaphore.{Semaphore}
@@ -85,6 +85,9 @@ unfolding recordAt
 queue-row bs i =
     tabulate-same 32 (λ k. wordAt bs (slotPlace i + 8 + k)) (λ k. wordAt bs (slotPlace i + (8 + k))) (λ k l. ap (wordAt bs) (omega arith))
     ∙ sym (queue-from (λ k. wordAt bs (slotPlace i + k)))
+
+pub queue-places : (bs : List ℕ) (i : ℕ) → length (recordAt bs i .queue) ≡ 32
+queue-places bs i = rw (← queue-row bs i) (length-tabulate 32 (λ k. wordAt bs (slotPlace i + 8 + k)))
 
 pub queue-word : (bs : List ℕ) (i k : ℕ) → k < 32 → wordAt bs (slotPlace i + 8 + k) ≡ getD (recordAt bs i .queue) k 0
 queue-word bs i k l = sym (getD-tabulate 32 (λ k. wordAt bs (slotPlace i + 8 + k)) k 0 l) ∙ ap (λ (q : List ℕ). getD q k 0) (queue-row bs i)

@@ -16,7 +16,7 @@ pub const TABLES_LENGTH: usize = 10760;
 // Words: N, S, then the places of tasks, then those of slots.
 pub const TASK_PLACES: usize = 32;
 
-pub const SLOT_PLACES: usize = 64;
+const SLOT_PLACES: usize = 64;
 
 const TASKS_AT: usize = 2;
 
@@ -28,7 +28,7 @@ const SLOT_WORDS: usize = 40;
 
 const TABLES_WORDS: usize = 2690;
 
-// Words of a slot behind its generation: its numbers, the count of its waiters, and 32 places of its queue.
+// Words of a slot behind its generation: its numbers, the count of its waiters, and the places of its queue.
 const LIVE: usize = 1;
 
 const NAME: usize = 2;
@@ -44,6 +44,8 @@ const NEST: usize = 6;
 const WAITERS: usize = 7;
 
 const QUEUE: usize = 8;
+
+const QUEUE_PLACES: usize = 32;
 
 // The words of a slot before its queue, for those who read the queue where it lies.
 pub struct Head {
@@ -163,7 +165,7 @@ fn load_queue(m: &[u8], i: usize) -> [u32; 32]
     let at = SLOTS_AT + SLOT_WORDS * i + QUEUE;
     let mut queue = [0u32; 32];
     let mut k = 0;
-    while k < 32 {
+    while k < QUEUE_PLACES {
         queue[k] = words::word(m, at + k);
         k += 1;
     }
@@ -216,7 +218,7 @@ fn is_queue_laid(m: &[u8], i: usize) -> bool
 {
     let at = SLOTS_AT + SLOT_WORDS * i;
     let waiters = slot_waiters(m, i) as usize;
-    if 32 < waiters {
+    if QUEUE_PLACES < waiters {
         return false;
     }
     words::is_blank(m, at + QUEUE + waiters, at + SLOT_WORDS)
@@ -245,10 +247,10 @@ pub fn is_layout(m: &[u8]) -> bool
     }
     let tasks = words::word(m, 0) as usize;
     let slots = words::word(m, 1) as usize;
-    if 32 < tasks {
+    if TASK_PLACES < tasks {
         return false;
     }
-    if 64 < slots {
+    if SLOT_PLACES < slots {
         return false;
     }
     if !words::is_blank(m, TASKS_AT + TASK_WORDS * tasks, SLOTS_AT) {

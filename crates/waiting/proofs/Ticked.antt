@@ -16,7 +16,7 @@ use Rattle.rules.proofs.Invariants.FromTests.{agrees-facts}
 use Rattle.rules.proofs.Invariants.Room.{entry-within}
 use Rattle.tables.specs.Layout.{laid}
 use Rattle.tables.specs.Sizes.{Limited}
-use Rattle.changes.specs.Tick.{TaskQueues, queueIn}
+use Rattle.changes.specs.Tick.{TaskQueues, waitersIn}
 use Rattle.answers.proofs.Laws.{tasks-few, slots-few, queue-few}
 use Rattle.waiting.proofs.Laws.{Reads, reads-after}
 
@@ -36,7 +36,7 @@ module _ {bs : List ℕ} {t : Tables} (m : Reads bs t) where
   facts = agrees-facts t (m .agrees)
 
   -- a queue's entries are tasks, and a free slot's queue has none
-  entry : (i k : ℕ) → k < length (queueIn t i) → (1 ≤ getD (queueIn t i) k 0) × (getD (queueIn t i) k 0 ≤ length (t .tasks))
+  entry : (i k : ℕ) → k < length (waitersIn t i) → (1 ≤ getD (waitersIn t i) k 0) × (getD (waitersIn t i) k 0 ≤ length (t .tasks))
   entry i k h =
       ⊎-elim (λ (l : isLive (nthSlot t i) ≡ true). entry-within t facts i l k h)
       (λ (n : isLive (nthSlot t i) ≡ false). absurd (omega (arith, facts .slots i .whenFree n .queue)))
