@@ -1,5 +1,5 @@
 -- What each test says of a choice, and of the connectives.
-use mathlib.Core.Path.{_≡_, refl, ap}
+use mathlib.Core.Path.{_≡_, refl, ap, sym}
 use mathlib.Core.Bool.{Bool, true, false, true≢false, false≢true}
 use mathlib.Core.Logic.{_⊎_, inl, inr}
 use Prim.Native.Nat.{ℕ, zero, suc, _≤_, _<_}
@@ -48,6 +48,13 @@ never {A} {t} e f = absurd (go t e f)
     go : (t : Bool) → t ≡ true → t ≡ false → ⊥
     go true e f = true≢false f
     go false e f = false≢true e
+
+-- two tests that imply each other
+pub same-test : (a b : Bool) → (a ≡ true → b ≡ true) → (b ≡ true → a ≡ true) → a ≡ b
+same-test true true f g = refl
+same-test true false f g = sym (f refl)
+same-test false true f g = g refl
+same-test false false f g = refl
 
 -- a choice by cases
 pub choose-cases : {A : Type 0} (P : A → Type 0) (t : Bool) (a b : A) → (t ≡ true → P a) → (t ≡ false → P b) → P (choose t a b)

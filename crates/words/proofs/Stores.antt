@@ -1,18 +1,19 @@
 -- Rows of words stored one word after another, and words tested one after another.
-use mathlib.Core.Path.{_≡_, refl, ap, sym, subst, _∙_}
-use mathlib.Core.Bool.{true, false}
+use mathlib.Core.Path.{_≡_, refl, ap, ap₂, sym, _∙_}
+use mathlib.Core.Bool.{true}
 use mathlib.Core.List.{List}
 use mathlib.Core.Logic.{_⊎_, inl, inr, ⊎-elim}
-use Prim.Native.Nat.{ℕ, zero, suc, _+_, _-_, _*_, _/_, _%_, _≤_, _<_}
+use Prim.Native.Nat.{ℕ, _+_, _-_, _*_, _/_, _%_, _≤_, _<_}
 use native.Mathlib.Numerals.{add-one, add-four}
 use native.Mathlib.Omega.{arith}
 use native.Mathlib.Decide.{ℕ-discrete}
 use lib.Dec.{eqb}
-use lib.ListN.{length, getD, take, drop, length-drop}
-use lib.Seq.{sets, drop-cons, drop-length, length-take-le, getD-take, getD-drop}
+use lib.ListN.{length, getD, drop}
+use lib.Seq.{sets, drop-cons, drop-length}
 use borrow.Author.Tests.{eq-eqb, eqb-true}
-use Rattle.laws.proofs.Choose.{tested, never}
-use Rattle.words.specs.Words.{bytesOfWord, bytesOf, wordAt, blank, Greatest}
+use Rattle.laws.specs.All.{all}
+use Rattle.laws.proofs.Choose.{same-test}
+use Rattle.words.specs.Words.{bytesOfWord, bytesOf, wordAt, swapped, blank}
 use Rattle.words.proofs.WordsInBytes.{blank-at, blank-of}
 
 -- the bytes of a row's rest are those of its next word, and of the rest behind it
@@ -42,79 +43,74 @@ module _ (m₀ : List ℕ) (i : ℕ) (row m : List ℕ) where
   unfolding bytesOf
   stored-all k h e = rw (h, drop-length row) at e
 
--- ---- the greatest byte
+-- ---- words tested one after another
 
 below-more : (k n : ℕ) → k < n + 1 → (k < n) ⊎ (k ≡ n)
 below-more k n h = elim (ℕ-discrete k n) [ yes e ↦ inr e | no d ↦ inl (omega arith) ]
 
-pub greatest-none : (bs : List ℕ) → Greatest bs 0 0
-greatest-none bs = record { most = λ k h. absurd (omega arith); none = λ f. refl }
+-- four bytes read low byte first make the word the other way round
+swapped-bytes : (a b c d : ℕ) → a < 256 → b < 256 → c < 256 → d < 256 → swapped (a + b * 256 + c * 65536 + d * 16777216) ≡ a * 16777216 + b * 65536 + c * 256 + d
+swapped-bytes a b c d ha hb hc hd =
+    let w : ℕ = a + b * 256 + c * 65536 + d * 16777216 in
+    let first : w % 256 ≡ a = omega arith in
+    let second : (b + c * 256 + d * 65536) % 256 ≡ b = omega arith in
+    let third : (c + d * 256) % 256 ≡ c = omega arith in
+    let from-second : w / 256 ≡ b + c * 256 + d * 65536 = omega arith in
+    let from-third : w / 65536 ≡ c + d * 256 = omega arith in
+    let fourth : w / 16777216 ≡ d = omega arith in
+    ap₂ (λ (x y : ℕ). x * 16777216 + y % 256 * 65536 + w / 65536 % 256 * 256 + w / 16777216) first from-second
+    ∙ ap₂ (λ (x y : ℕ). a * 16777216 + x * 65536 + y % 256 * 256 + w / 16777216) second from-third
+    ∙ ap₂ (λ (x y : ℕ). a * 16777216 + b * 65536 + x * 256 + y) third fourth
 
-pub greatest-more : (bs : List ℕ) (n g r : ℕ) → Greatest bs n g → g ≤ r → getD bs n 0 ≤ r → r ≤ g + getD bs n 0 → Greatest bs (n + 1) r
-greatest-more bs n g r e hg hb h =
-    record {
-      most = λ k l.
-          ⊎-elim (λ (p : k < n). omega (arith, e .most k p)) (λ (p : k ≡ n). subst (λ (j : ℕ). getD bs j 0 ≤ r) (sym p) hb) (below-more k n l);
-      none = λ f. omega (arith, e .none (λ k l. f k (omega arith)), f n (omega arith));
-    }
+-- a byte of the word at i, and its limit
+abbrev pub IsByte : List ℕ → ℕ → ℕ → Type 0
+IsByte bs at b = (b ≡ getD bs at 0) × (b < 256)
 
--- ---- words whose bytes are 0
-
-byte-zero : (bs : List ℕ) (i : ℕ) → wordAt bs i ≡ 0 → (j : ℕ) → j < 4 → getD bs (4 * i + j) 0 ≡ 0
+pub swapped-read : (bs : List ℕ) (i a b c d : ℕ) → IsByte bs (4 * i) a → IsByte bs (4 * i + 1) b → IsByte bs (4 * i + 2) c → IsByte bs (4 * i + 3) d
+    → swapped (a + b * 256 + c * 65536 + d * 16777216) ≡ wordAt bs i
 unfolding wordAt
-byte-zero bs i e zero h = ap (λ (n : ℕ). getD bs n 0) (omega arith) ∙ (let z : getD bs (4 * i) 0 ≡ 0 = omega arith in z)
-byte-zero bs i e (suc zero) h = omega arith
-byte-zero bs i e (suc (suc zero)) h = omega arith
-byte-zero bs i e (suc (suc (suc zero))) h = omega arith
-byte-zero bs i e (suc (suc (suc (suc j)))) h = absurd (omega arith)
+swapped-read bs i a b c d ha hb hc hd = swapped-bytes a b c d (ha .1) (hb .1) (hc .1) (hd .1) ∙ (let e : a * 16777216 + b * 65536 + c * 256 + d ≡ wordAt bs i = omega arith in e)
 
-word-zero : (bs : List ℕ) (i : ℕ) → ((j : ℕ) → j < 4 → getD bs (4 * i + j) 0 ≡ 0) → wordAt bs i ≡ 0
-unfolding wordAt
-word-zero bs i f =
-    let first : getD bs (4 * i) 0 ≡ 0 = ap (λ (n : ℕ). getD bs n 0) (omega arith) ∙ f 0 (omega arith) in
-    omega (arith, f 1 (omega arith), f 2 (omega arith), f 3 (omega arith))
+small : (x : ℕ) → x < 256 → x % 256 ≡ 0 → x ≡ 0
+small x h e = omega arith
 
--- the bytes from a up to e, as a part that is lent
-abbrev part : List ℕ → ℕ → ℕ → List ℕ
-part bs a e = take (e - a) (drop a bs)
+swapped-zero : (w : ℕ) → swapped w ≡ 0 → w ≡ 0
+swapped-zero w e =
+    let below : w < 16777216 = omega arith in
+    let high : w / 65536 ≡ 0 = small (w / 65536) (omega arith) (omega arith) in
+    let middle : w / 256 ≡ 0 = small (w / 256) (omega arith) (omega arith) in
+    small w (omega arith) (omega arith)
 
-part-at : (bs : List ℕ) (a e k : ℕ) → a + k < e → getD (part bs a e) k 0 ≡ getD bs (a + k) 0
-part-at bs a e k h = getD-take (e - a) (drop a bs) k 0 (omega arith) ∙ getD-drop a bs k 0
+-- bits that are 0 exactly where the words from `from` up to k are
+abbrev pub Blank : List ℕ → ℕ → ℕ → ℕ → Type 0
+Blank bs from k seen = eqb seen 0 ≡ blank bs from k
 
-part-length : (bs : List ℕ) (a e : ℕ) → e ≤ length bs → length (part bs a e) ≡ e - a
-part-length bs a e h = length-take-le (e - a) (drop a bs) (omega (arith, length-drop a bs))
+pub blank-none : (bs : List ℕ) (from : ℕ) → Blank bs from from 0
+blank-none bs from = sym (blank-of bs from from (λ k l h. absurd (omega arith)))
 
-module _ (bs : List ℕ) (from to r : ℕ) (fits : 4 * to ≤ length bs) where
-  abbrev Largest : Type 0
-  Largest = Greatest (part bs (4 * from) (4 * to)) (length (part bs (4 * from) (4 * to))) r
+-- one word more, whose bytes were read the other way round
+pub blank-more : (bs : List ℕ) (from k seen w r : ℕ) → from ≤ k → Blank bs from k seen → swapped w ≡ wordAt bs k → seen ≤ r → w ≤ r → r ≤ seen + w → Blank bs from (k + 1) r
+blank-more bs from k seen w r low e read hs hw h = same-test _ _ there back
+  where
+    there : eqb r 0 ≡ true → blank bs from (k + 1) ≡ true
+    there z =
+        let none : r ≡ 0 = eqb-true r 0 z in
+        let bits : seen ≡ 0 = omega arith in
+        let last : w ≡ 0 = omega arith in
+        let passed = blank-at bs from k (sym e ∙ eq-eqb seen 0 bits) in
+        let zero : wordAt bs k ≡ 0 = sym read ∙ ap swapped last in
+        blank-of bs from (k + 1)
+        (λ j l b. ⊎-elim (λ (p : j < k). passed j l p) (λ (p : j ≡ k). ap (wordAt bs) p ∙ zero) (below-more j k b))
 
-  inside : (k : ℕ) → k < length (part bs (4 * from) (4 * to)) → 4 * from + k < 4 * to
-  inside k h = omega (arith, part-length bs (4 * from) (4 * to) fits)
+    back : blank bs from (k + 1) ≡ true → eqb r 0 ≡ true
+    back b =
+        let at = blank-at bs from (k + 1) b in
+        let bits : seen ≡ 0 = eqb-true seen 0 (e ∙ blank-of bs from k (λ j l p. at j l (omega arith))) in
+        let zero : wordAt bs k ≡ 0 = at k low (omega arith) in
+        let last : w ≡ 0 = swapped-zero w (read ∙ zero) in
+        eq-eqb r 0 (omega arith)
 
-  byte-most : Largest → (i j : ℕ) → from ≤ i → i < to → j < 4 → getD bs (4 * i + j) 0 ≤ r
-  byte-most g i j l h hj =
-      let k : ℕ = 4 * i + j - 4 * from in
-      let p : 4 * from + k ≡ 4 * i + j = omega arith in
-      let same : getD (part bs (4 * from) (4 * to)) k 0 ≡ getD bs (4 * i + j) 0 = part-at bs (4 * from) (4 * to) k (omega arith) ∙ ap (λ (n : ℕ). getD bs n 0) p in
-      omega (arith, g .most k (omega (arith, part-length bs (4 * from) (4 * to) fits)))
-
-  zero-blank : Largest → r ≡ 0 → blank bs from to ≡ true
-  zero-blank g z = blank-of bs from to (λ i l h. word-zero bs i (λ j hj. omega (arith, byte-most g i j l h hj)))
-
-  blank-zero : Largest → blank bs from to ≡ true → r ≡ 0
-  blank-zero g b = g .none (λ k h. part-at bs (4 * from) (4 * to) k (inside k h) ∙ at (4 * from + k) (omega arith) (inside k h))
-    where
-      at : (n : ℕ) → 4 * from ≤ n → n < 4 * to → getD bs n 0 ≡ 0
-      at n l h =
-          let p : n ≡ 4 * (n / 4) + n % 4 = omega arith in
-          ap (λ (k : ℕ). getD bs k 0) p ∙ byte-zero bs (n / 4) (blank-at bs from to b (n / 4) (omega arith) (omega arith)) (n % 4) (omega arith)
-
-  -- the words are 0 exactly where the greatest of their bytes is
-  pub blank-greatest : Largest → eqb r 0 ≡ blank bs from to
-  blank-greatest g =
-      ⊎-elim (λ (t : eqb r 0 ≡ true). t ∙ sym (zero-blank g (eqb-true r 0 t)))
-      (λ (f : eqb r 0 ≡ false). f ∙ sym (⊎-elim (λ (b : blank bs from to ≡ true). never (eq-eqb r 0 (blank-zero g b)) f) (λ (b : blank bs from to ≡ false). b) (tested (blank bs from to))))
-      (tested (eqb r 0))
-
-pub blank-empty : (bs : List ℕ) (from to : ℕ) → to ≤ from → true ≡ blank bs from to
-blank-empty bs from to h = sym (blank-of bs from to (λ k l m. absurd (omega arith)))
+-- all of them, and none where `to` is not behind `from`
+pub blank-all : (bs : List ℕ) (from k to seen : ℕ) → k - from ≡ to - from → Blank bs from k seen → eqb seen 0 ≡ blank bs from to
+unfolding blank
+blank-all bs from k to seen same e = e ∙ ap (λ (n : ℕ). all n (λ k. eqb (wordAt bs (from + k)) 0)) same

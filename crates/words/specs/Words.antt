@@ -1,8 +1,7 @@
 -- Words in bytes: each of four bytes, high byte first.
-use mathlib.Core.Path.{_≡_}
 use mathlib.Core.Bool.{Bool}
 use mathlib.Core.List.{List, [], _∷_, _++_}
-use Prim.Native.Nat.{ℕ, _+_, _-_, _*_, _/_, _%_, _≤_, _<_}
+use Prim.Native.Nat.{ℕ, _+_, _-_, _*_, _/_, _%_}
 use lib.Dec.{eqb}
 use lib.ListN.{getD}
 use Rattle.laws.specs.All.{all}
@@ -18,11 +17,10 @@ bytesOf (w ∷ ws) = bytesOfWord w ++ bytesOf ws
 unfoldable pub wordAt : List ℕ → ℕ → ℕ
 wordAt bs i = getD bs (4 * i) 0 * 16777216 + getD bs (4 * i + 1) 0 * 65536 + getD bs (4 * i + 2) 0 * 256 + getD bs (4 * i + 3) 0
 
+-- a word's four bytes the other way round
+abbrev pub swapped : ℕ → ℕ
+swapped w = w % 256 * 16777216 + w / 256 % 256 * 65536 + w / 65536 % 256 * 256 + w / 16777216
+
 -- every word from index `from` up to `to` is 0
 unfoldable pub blank : List ℕ → ℕ → ℕ → Bool
 blank bs from to = all (to - from) (λ k. eqb (wordAt bs (from + k)) 0)
-
--- r is the greatest of the first n bytes: as great as each, and 0 if they all are
-pub record Greatest (bs : List ℕ) (n r : ℕ) : Type 0 where
-  pub most : (k : ℕ) → k < n → getD bs k 0 ≤ r
-  pub none : ((k : ℕ) → k < n → getD bs k 0 ≡ 0) → r ≡ 0

@@ -3,7 +3,7 @@ ghost use mathlib.Core.Path.{_≡_};
 ghost use Prim.Native.Nat.{_+_, _*_, _≤_, _<_};
 ghost use lib.ListN.{length};
 ghost use lib.Seq.{sets};
-ghost use Rattle.words.specs.Words.{bytesOfWord, bytesOf, wordAt, blank, Greatest};
+ghost use Rattle.words.specs.Words.{bytesOfWord, bytesOf, wordAt, blank, swapped};
 
 fn wide(b: u8) -> u32
     ensures { λ r. ⌜ (r ≡ b) × (r < 256) ⌝ }
@@ -11,12 +11,27 @@ fn wide(b: u8) -> u32
     b as u32
 }
 
+// A word's four bytes the other way round.
+fn swapped(w: u32) -> u32
+    ensures { λ r. ⌜ r ≡ swapped w ⌝ }
+{
+    w % 256 * 16777216 + w / 256 % 256 * 65536 + w / 65536 % 256 * 256 + w / 16777216
+}
+
+// The bytes of a word, read low byte first: in that order the compiler makes one load of them.
+fn swapped_word(m: &[u8], i: usize) -> u32
+    requires { ⌜ 4 * i + 4 ≤ length (now m) ⌝ }
+    ensures { λ r. ⌜ swapped r ≡ wordAt (now (m .entry)) i ⌝ }
+{
+    let at = 4 * i;
+    wide(m[at]) + wide(m[at + 1]) * 256 + wide(m[at + 2]) * 65536 + wide(m[at + 3]) * 16777216
+}
+
 pub fn word(m: &[u8], i: usize) -> u32
     requires { ⌜ 4 * i + 4 ≤ length (now m) ⌝ }
     ensures { λ r. ⌜ r ≡ wordAt (now (m .entry)) i ⌝ }
 {
-    let at = 4 * i;
-    wide(m[at]) * 16777216 + wide(m[at + 1]) * 65536 + wide(m[at + 2]) * 256 + wide(m[at + 3])
+    swapped(swapped_word(m, i))
 }
 
 pub fn set_word(m: &mut [u8], i: usize, w: u32)
@@ -42,32 +57,23 @@ pub fn set_words(m: &mut [u8], i: usize, row: &[u32])
     }
 }
 
-fn greater(a: u8, b: u8) -> u8
+// 0 exactly where both are.
+fn bits_of_both(a: u32, b: u32) -> u32
     ensures { λ r. ⌜ (a ≤ r) × (b ≤ r) × (r ≤ a + b) ⌝ }
 {
-    if a < b { b } else { a }
+    a | b
 }
 
-// The greatest byte. No way out before the end, so that many bytes are compared at once.
-fn greatest(m: &[u8]) -> u8
-    ensures { λ r. ⌜ Greatest (now (m .entry)) (length (now (m .entry))) r ⌝ }
-{
-    let mut most: u8 = 0;
-    let mut at = 0;
-    while at < m.len() {
-        most = greater(most, m[at]);
-        at += 1;
-    }
-    most
-}
-
-// Whether every word from `from` up to `to` is 0.
+// Whether every word from `from` up to `to` is 0. No way out before the end, so that several are read at once.
 pub fn is_blank(m: &[u8], from: usize, to: usize) -> bool
     requires { ⌜ 4 * to ≤ length (now m) ⌝ }
     ensures { λ r. ⌜ r ≡ blank (now (m .entry)) from to ⌝ }
 {
-    if to <= from {
-        return true;
+    let mut seen: u32 = 0;
+    let mut k = from;
+    while k < to {
+        seen = bits_of_both(seen, swapped_word(m, k));
+        k += 1;
     }
-    greatest(&m[4 * from..4 * to]) == 0
+    seen == 0
 }

@@ -1,47 +1,45 @@
--- `words::is_blank` meets its contract: words are 0 where the greatest of their bytes is.
+-- `words::is_blank` meets its contract. The invariant: the bits seen are 0 exactly where the words passed are.
 use borrow.Author.Needs.{needs}
-use Rattle.words.proofs.Stores.{blank-greatest, blank-empty}
+use Prim.Native.Nat.{_≤_, _-_}
+use native.Mathlib.Omega.{arith}
+use Rattle.words.proofs.Stores.{Blank, blank-none, blank-more, blank-all}
 use Rattle.words.proofs.is_blank.Statement.{statement}
 use Rattle.words.proofs.is_blank.Tie as tie
 
-returns : tie.Need-returns
+abbrev Inv-loop : tie.InvT-loop
+Inv-loop m from to seen₀ k₀ seen k = (from ≤ k) × (k - from ≤ to - from) × Blank m from k seen
+
+abbrev μ-loop : tie.MeasureT-loop
+μ-loop m from to seen₀ k₀ seen k = to - k
+
+loop-holds : tie.Need-loop-holds Inv-loop μ-loop
+loop-holds c = (omega arith, omega arith, blank-none _ _)
+
+swapped-word-requires : tie.Need-swapped-word-requires Inv-loop μ-loop
+swapped-word-requires c κs = search needs
+
+bits-of-both-requires : tie.Need-bits-of-both-requires Inv-loop μ-loop
+bits-of-both-requires c κs = search needs
+
+add-k : tie.Need-add-k Inv-loop μ-loop
+add-k c = search needs
+
+loop-less : tie.Need-loop-less Inv-loop μ-loop
+loop-less c = search needs
+
+loop-again : tie.Need-loop-again Inv-loop μ-loop
+loop-again c =
+    let turn = c .before .before .before .loop in
+    let joined = c .bits-of-both .ensures in
+    (omega arith, omega arith, blank-more _ _ (turn .k) (turn .seen) _ _ (turn .inv .0) (turn .inv .2) (c .before .swapped-word .ensures) (joined .0) (joined .1) (joined .2))
+
+returns : tie.Need-returns Inv-loop μ-loop
 returns c =
-    let first = c .before .before .args in
-    blank-empty (first .m .now) (first .from) (first .to) (c .if1 .taken)
-
-mul-greatest : tie.Need-mul-greatest
-mul-greatest c = search needs
-
-mul-greatest-2 : tie.Need-mul-greatest-2
-mul-greatest-2 c = search needs
-
-sub-greatest : tie.Need-sub-greatest
-sub-greatest c = search needs
-
-part-greatest-start : tie.Need-part-greatest-start
-part-greatest-start c = search needs
-
-part-greatest-end : tie.Need-part-greatest-end
-part-greatest-end c = search needs
-
-greatest-requires : tie.Need-greatest-requires
-greatest-requires c κs = search needs
-
-returns-2 : tie.Need-returns-2
-returns-2 c =
-    let start = c .before .before .before .before in
-    let first = start .args in
-    blank-greatest (first .m .now) (first .from) (first .to) (c .greatest .result) (start .pre) (c .greatest .ensures)
+    let o = c .before .before .before .args in
+    let end = c .before .loop in
+    blank-all (o .m .now) (o .from) (end .k) (o .to) (end .seen) (omega arith) (end .inv .2)
 
 pub is-blank-spec : {M : Type 1} → statement M
 is-blank-spec =
     tie.close
-    (tie.spec
-    returns
-    mul-greatest
-    mul-greatest-2
-    sub-greatest
-    part-greatest-start
-    part-greatest-end
-    greatest-requires
-    returns-2)
+    (tie.spec Inv-loop μ-loop loop-holds swapped-word-requires bits-of-both-requires add-k loop-less loop-again returns)
