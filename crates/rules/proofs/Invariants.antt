@@ -1,9 +1,9 @@
 -- Agreement is kept by every call and tick.
 pub mod Lists
+pub mod Agreeing
 pub mod Facts
 pub mod FromTests
 pub mod ToTests
-pub mod Agreeing
 pub mod Links
 pub mod Waking
 pub mod PartsKept

@@ -121,7 +121,8 @@ refused-11 : run (tablesOf (startWith 2 (10 ∷ []) ∷ ask (Create 1 77 2 0) �
 unfolding seen
 refused-11 = refl
 
-refused-owned : run (tablesOf (startWith 2 (10 ∷ []) ∷ ask (Create 1 77 0 16) ∷ [])) (handed (script 1 (counting 0 ∷ []) ∷ [])) (Turn 1 ∷ []) .answer ≡ says 11 0 1
+refused-owned : run (tablesOf (startWith 2 (10 ∷ []) ∷ ask (Create 1 77 0 16) ∷ [])) (handed (script 1 (counting 0 ∷ []) ∷ []))
+    (Turn 1 ∷ []) .answer ≡ says 11 0 1
 unfolding seen
 refused-owned = refl
 

@@ -15,10 +15,11 @@ use Rattle.rules.specs.declared.Call.the-variants.{Start, Create, Ident,
 use Rattle.rules.specs.declared.Wait.{Wait}
 use Rattle.rules.specs.Numbers.{maxTasks, maxSlots, within}
 use Rattle.rules.specs.Machine.{Slot, Tables, slotOf, putSlot, slotNamed}
-use Rattle.rules.specs.Agreement.{sizesFit, agrees}
+use Rattle.rules.specs.Agreement.{agrees}
 use Rattle.rules.specs.Semaphore.{Taken, Given, takeStep, giveStep, passStep, flushStep}
 use Rattle.rules.specs.Calls.{Outcome, unless, wakeAll, openSlot, startRefusal, start, createRefusal, newSemaphore, create, firstNamed, ident, deleteRefusal, delete, obtainRefusal, obtain, releaseRefusal, release, flushRefusal, flush, tickedSlot, tick, perform, step}
 use Rattle.rules.specs.Runs.{Request, stepOf, after}
+use Rattle.rules.proofs.Invariants.Agreeing.{sizes-within, true-agrees}
 use Rattle.rules.proofs.History.Forward.{Onward, Forward, onward-same, onward-new, onward-freed, forward-refl, forward-trans, forward-slots, forward-put, woken-slots, ticked-slot}
 
 -- a machine that is started, with no more slots than there may be
@@ -27,17 +28,9 @@ pub record Started (t : Tables) : Type 0 where
   pub slots : length (t .slots) ≤ maxSlots
 
 pub agreeing-started : (t : Tables) → agrees t ≡ true → 1 ≤ length (t .slots) → Started t
-unfolding agrees sizesFit
-agreeing-started t a s = ⊎-elim empty sized (or-either _ _ (and-both _ _ a .0))
-  where
-    empty : (eqb (length (t .tasks)) 0 and eqb (length (t .slots)) 0) ≡ true → Started t
-    empty e = let z : length (t .slots) ≡ 0 = eqb-true _ _ (and-both _ _ e .1) in absurd (omega arith)
-
-    sized : (within 1 maxTasks (length (t .tasks)) and within 1 maxSlots (length (t .slots))) ≡ true → Started t
-    sized e = record {
-      tasks = leb-true _ _ (and-both _ _ (and-both _ _ e .0) .0);
-      slots = leb-true _ _ (and-both _ _ (and-both _ _ e .1) .1);
-    }
+agreeing-started t a s =
+    let sizes = sizes-within t (true-agrees t a .sizes) in
+    record { tasks = omega (arith, sizes .none); slots = sizes .slots }
 
 -- one semaphore's steps keep its generation, and it lives on
 same-taken : (s : Slot) (caller place : ℕ) (wait : Wait) → Onward s (takeStep s caller place wait .slot)

@@ -6,11 +6,11 @@ use Prim.Native.Nat.{ℕ, suc}
 use native.Mathlib.Omega.{arith}
 use lib.ListN.{length}
 use Rattle.rules.specs.Machine.{Slot, Tables, freeSlot, slotOf, putSlot, isLive, urgency, names, slotNamed}
-use Rattle.rules.specs.Agreement.{occurs}
+use Rattle.rules.specs.Agreement.{isEnding, occurs}
 use Rattle.rules.specs.Semaphore.{flushStep}
 use Rattle.rules.specs.Calls.{answered, wakeAll, deleteRefusal, delete, flushRefusal, flush}
 use Rattle.rules.proofs.Invariants.Lists.{occurs-none}
-use Rattle.rules.proofs.Invariants.Facts.{nthSlot, isEnding, Facts, SlotFits, free-fits}
+use Rattle.rules.proofs.Invariants.Facts.{nthSlot, Facts, SlotFits, free-fits}
 use Rattle.rules.proofs.Invariants.Waking.{deleted-ends, flushed-ends}
 use Rattle.rules.proofs.Invariants.PartsKept.{roused}
 use Rattle.rules.proofs.Invariants.Slots.{flush-fits}

@@ -2,19 +2,18 @@
 use mathlib.Core.Path.{_≡_, refl}
 use mathlib.Core.Bool.{Bool, true, false}
 use mathlib.Core.List.{List}
-use mathlib.Core.Logic.{_⊎_, ⊎-elim}
+use mathlib.Core.Logic.{_⊎_}
 use Prim.Native.Nat.{ℕ, suc, _≤_, _<_}
 use native.Mathlib.Omega.{arith}
 use native.Mathlib.Decide.{decLt}
 use lib.Dec.{eqb}
 use lib.ListN.{length, getD, List·getD-eq-default}
-use borrow.Author.Tests.{leb-true, eqb-true}
-use Rattle.laws.specs.Choose.{choose, _and_, _or_, bit}
-use Rattle.laws.proofs.Choose.{never, and-both, or-either}
+use Rattle.laws.specs.Choose.{choose, _and_, bit}
+use Rattle.laws.proofs.Choose.{never}
 use Rattle.rules.specs.declared.Task.{Task}
-use Rattle.rules.specs.Numbers.{maxPriority, maxGeneration, maxNumber, maxSlots, allowed, byPriority, isBinary, isSimple}
+use Rattle.rules.specs.Numbers.{maxPriority, maxGeneration, maxNumber, allowed, byPriority, isBinary, isSimple}
 use Rattle.rules.specs.Machine.{Slot, Tables, noTask, freeSlot, waits, isLive, urgency, idOf}
-use Rattle.rules.specs.Agreement.{occurs, sizesFit}
+use Rattle.rules.specs.Agreement.{occurs, answerFits, sizesFit}
 use Rattle.rules.proofs.Invariants.Lists.{Ascending}
 
 -- counted from 0
@@ -27,13 +26,9 @@ nthSlot t j = getD (t .slots) j (freeSlot 0)
 abbrev pub waitsOn : Task → ℕ → Bool
 waitsOn v id = waits v and eqb (v .awaited) id
 
--- an answer that a ready task may have
-abbrev pub isEnding : ℕ → Bool
-isEnding a = eqb a 0 or eqb a 6 or eqb a 7 or eqb a 13
-
 -- what is true of each task
 pub record TaskFits (v : Task) : Type 0 where
-  pub answer : (waits v or isEnding (v .answer)) ≡ true
+  pub answer : answerFits v ≡ true
   pub awaited : v .awaited ≤ maxNumber
   pub ticks : v .ticks ≤ maxNumber
   pub atRest : waits v ≡ false → (v .ticks ≡ 0) × (v .awaited ≡ 0)
@@ -150,11 +145,3 @@ live-within t j =
       | yes h ↦ (λ e. h)
       | no n ↦ (λ e. let h : length (t .slots) ≤ j = omega arith in never (rw (List·getD-eq-default (t .slots) (freeSlot 0) h) at e) refl)
     ]
-
--- a slot's number fits the low half of an identifier
-pub few : (t : Tables) → sizesFit t ≡ true → length (t .slots) ≤ maxSlots
-unfolding sizesFit
-few t e =
-    ⊎-elim (λ (z : (eqb (length (t .tasks)) 0 and eqb (length (t .slots)) 0) ≡ true). let n : length (t .slots) ≡ 0 = eqb-true _ _ (and-both _ _ z .1) in omega arith)
-    (λ z. leb-true _ _ (and-both _ _ (and-both _ _ z .1) .1))
-    (or-either _ _ e)

@@ -5,15 +5,16 @@ use mathlib.Core.Logic.{_⊎_, inl, inr, ⊎-elim}
 use Prim.Native.Nat.{ℕ, suc, pred, _%_, _/_, _+_, _*_, _≤_, _<_}
 use native.Mathlib.Omega.{arith}
 use lib.Dec.{leb}
-use lib.ListN.{length, getD}
+use lib.ListN.{length}
 use borrow.Author.Tests.{leb-true, eqb-true, eqb-false, le-leb}
-use Rattle.laws.proofs.Choose.{tested, never, and-both, or-either, when-then, isnt-false, false-isnt}
+use Rattle.laws.proofs.Choose.{tested, never, and-both, or-either, when-then, isnt-false}
 use Rattle.laws.proofs.All.{all-at}
-use Rattle.rules.specs.Numbers.{maxPriority, byPriority, isBinary}
+use Rattle.rules.specs.Numbers.{maxPriority, isBinary}
 use Rattle.rules.specs.Machine.{Tables, noTask, freeSlot, slotOf, waits, isLive, urgency, idOf, names}
-use Rattle.rules.specs.Agreement.{Agrees, isWaiter, occurs, numbersFit, answersFit, liveNamed, attributesAllowed, waitersQueued, queuesWait, queuesOrdered, queuedAtZero, binariesOwned, othersUnowned, readyAtRest, freeSlotsClear}
-use Rattle.rules.proofs.Invariants.Lists.{Ascending, ascending-of, bit-yes, bit-no, occurs-not}
-use Rattle.rules.proofs.Invariants.Facts.{nthTask, nthSlot, waitsOn, TaskFits, Unheld, Held, Unowned, LiveFits, FreeFits, SlotFits, Names, Counted, Facts, none-fits, free-fits, everywhere, waits-within, live-within, few}
+use Rattle.rules.specs.Agreement.{Agrees, isWaiter, occurs}
+use Rattle.rules.proofs.Invariants.Lists.{ascending-of, bit-yes, bit-no, occurs-not}
+use Rattle.rules.proofs.Invariants.Agreeing.{LiveAgrees, ItemsAgree, sizes-within, agrees-items}
+use Rattle.rules.proofs.Invariants.Facts.{nthTask, nthSlot, waitsOn, TaskFits, Unheld, Held, Unowned, LiveFits, FreeFits, SlotFits, Names, Counted, Facts, none-fits, free-fits, everywhere, waits-within, live-within}
 
 -- an identifier that names a live semaphore is that of a live slot
 pub named-of : (t : Tables) (id : ℕ) → names t id ≡ true → Names (nthSlot t) id
@@ -23,38 +24,27 @@ named-of t id e =
     let generation : slotOf t (id % 65536) .generation ≡ id / 65536 = eqb-true _ _ (rest .1) in
     record { place = pred (id % 65536); live = rest .0; is = omega arith }
 
-module _ (t : Tables) (a : Agrees t) where
+module _ (t : Tables) (a : ItemsAgree t) where
   urgent : (i : ℕ) → i < length (t .tasks) → (1 ≤ nthTask t i .priority) × (nthTask t i .priority ≤ maxPriority)
-  unfolding numbersFit
   urgent i h =
-      let e = and-both _ _ (and-both _ _ (all-at _ _ (and-both _ _ (a .numbers) .0) i h) .0) in
+      let e = and-both _ _ (and-both _ _ (a .task i h .numbers) .0) in
       (leb-true _ _ (e .0), leb-true _ _ (e .1))
 
   task-fits : (i : ℕ) → i < length (t .tasks) → TaskFits (nthTask t i)
-  unfolding numbersFit answersFit readyAtRest
   task-fits i h =
-      let e = and-both _ _ (and-both _ _ (all-at _ _ (and-both _ _ (a .numbers) .0) i h) .1) in
-      let rest = when-then _ _ (all-at _ _ (a .atRest) i h) in
+      let e = and-both _ _ (and-both _ _ (a .task i h .numbers) .1) in
       record {
-        answer = all-at _ _ (a .answers) i h;
+        answer = a .task i h .answer;
         awaited = leb-true _ _ (e .0);
         ticks = leb-true _ _ (e .1);
-        atRest = λ w. let z = and-both _ _ (rest (false-isnt _ w)) in (eqb-true _ _ (z .0), eqb-true _ _ (z .1));
+        atRest = λ w. let z = and-both _ _ (a .task i h .atRest w) in (eqb-true _ _ (z .0), eqb-true _ _ (z .1));
       }
 
   module _ (j : ℕ) (h : j < length (t .slots)) where
-    entry-waits : isLive (nthSlot t j) ≡ true → (k : ℕ) → k < length (nthSlot t j .queue) → isWaiter t (idOf (suc j) (nthSlot t j)) (getD (nthSlot t j .queue) k 0) ≡ true
-    unfolding queuesWait
-    entry-waits l = all-at _ _ (when-then _ _ (all-at _ _ (a .queues) j h) l)
-
-    slot-ordered : isLive (nthSlot t j) ≡ true → byPriority (nthSlot t j .attributes) ≡ true → Ascending (urgency t) 0 (nthSlot t j .queue)
-    unfolding queuesOrdered
-    slot-ordered l b =
-        ascending-of (urgency t) 0 (nthSlot t j .queue) (λ k. omega arith)
-        (λ k b′. leb-true _ _ (all-at _ _ (when-then _ _ (when-then _ _ (all-at _ _ (a .ordered) j h) l) b) k b′))
+    live : isLive (nthSlot t j) ≡ true → LiveAgrees t (suc j) (nthSlot t j)
+    live = a .slot j h .whenLive
 
     slot-owned : isLive (nthSlot t j) ≡ true → isBinary (nthSlot t j .attributes) ≡ true → Unheld (nthSlot t j) ⊎ Held (length (t .tasks)) (nthSlot t j)
-    unfolding binariesOwned
     slot-owned l b =
         ⊎-elim
         (λ e. let f = and-both _ _ e in let g = and-both _ _ (f .1) in inl (record { count = eqb-true _ _ (f .0); owner = eqb-true _ _ (g .0); nest = eqb-true _ _ (g .1) }))
@@ -70,35 +60,32 @@ module _ (t : Tables) (a : Agrees t) where
           apart = eqb-true _ _ (k .0);
           nest = leb-true _ _ (k .1);
         }))
-        (or-either _ _ (when-then _ _ (when-then _ _ (all-at _ _ (a .owned) j h) l) b))
+        (or-either _ _ (live l .owned b))
 
     slot-unowned : isLive (nthSlot t j) ≡ true → isBinary (nthSlot t j .attributes) ≡ false → Unowned (nthSlot t j)
-    unfolding othersUnowned
     slot-unowned l b =
-        let f = and-both _ _ (when-then _ _ (when-then _ _ (all-at _ _ (a .unowned) j h) l) (false-isnt _ b)) in
+        let f = and-both _ _ (live l .unowned b) in
         let g = and-both _ _ (f .1) in
         record { owner = eqb-true _ _ (f .0); nest = eqb-true _ _ (g .0); simple = λ s. leb-true _ _ (when-then _ _ (g .1) s) }
 
     slot-live : isLive (nthSlot t j) ≡ true → LiveFits (length (t .tasks)) (urgency t) (nthSlot t j)
-    unfolding liveNamed attributesAllowed queuedAtZero
     slot-live l =
-        let n = and-both _ _ (when-then _ _ (all-at _ _ (a .named) j h) l) in
+        let n = and-both _ _ (live l .named) in
         let unnamed : nthSlot t j .name ≡ 0 → ⊥ = eqb-false _ _ (isnt-false _ (n .1)) in
         record {
           generation = leb-true _ _ (n .0);
           named = omega arith;
-          attributed = when-then _ _ (all-at _ _ (a .attributed) j h) l;
-          entries = occurs-not (leb 1) 0 refl (nthSlot t j .queue) (λ k b. and-both _ _ (and-both _ _ (entry-waits l k b) .0) .0);
-          ordered = slot-ordered l;
-          atZero = λ q. eqb-true _ _ (when-then _ _ (when-then _ _ (all-at _ _ (a .atZero) j h) l) (le-leb _ _ q));
+          attributed = live l .attributed;
+          entries = occurs-not (leb 1) 0 refl (nthSlot t j .queue) (λ k b. and-both _ _ (and-both _ _ (all-at _ _ (live l .waiting) k b) .0) .0);
+          ordered = λ b. ascending-of (urgency t) 0 (nthSlot t j .queue) (λ k. omega arith) (λ k b′. leb-true _ _ (all-at _ _ (live l .ordered b) k b′));
+          atZero = λ q. eqb-true _ _ (when-then _ _ (live l .atZero) (le-leb _ _ q));
           owned = slot-owned l;
           unowned = slot-unowned l;
         }
 
     slot-free : isLive (nthSlot t j) ≡ false → FreeFits (nthSlot t j)
-    unfolding freeSlotsClear
     slot-free l =
-        let e₁ = and-both _ _ (when-then _ _ (all-at _ _ (a .clear) j h) (false-isnt _ l)) in
+        let e₁ = and-both _ _ (a .slot j h .whenFree l) in
         let e₂ = and-both _ _ (e₁ .1) in
         let e₃ = and-both _ _ (e₂ .1) in
         let e₄ = and-both _ _ (e₃ .1) in
@@ -113,9 +100,8 @@ module _ (t : Tables) (a : Agrees t) where
         }
 
     slot-fits : SlotFits (length (t .tasks)) (urgency t) (nthSlot t j)
-    unfolding numbersFit
     slot-fits =
-        let e₁ = and-both _ _ (all-at _ _ (and-both _ _ (a .numbers) .1) j h) in
+        let e₁ = and-both _ _ (a .slot j h .numbers) in
         let e₂ = and-both _ _ (e₁ .1) in
         let e₃ = and-both _ _ (e₂ .1) in
         let e₄ = and-both _ _ (e₃ .1) in
@@ -131,9 +117,8 @@ module _ (t : Tables) (a : Agrees t) where
 
   -- a waiting task stands once in the queue that it waits in
   waiter-once : (i : ℕ) → waits (nthTask t i) ≡ true → (names t (nthTask t i .awaited) ≡ true) × (occurs (suc i) (slotOf t (nthTask t i .awaited % 65536) .queue) ≡ 1)
-  unfolding waitersQueued
   waiter-once i w =
-      let e = and-both _ _ (when-then _ _ (all-at _ _ (a .waiters) i (waits-within t i w)) w) in
+      let e = and-both _ _ (a .task i (waits-within t i w) .waiter w) in
       (e .0, eqb-true _ _ (e .1))
 
   counted : (i j : ℕ) → Counted i (nthTask t i) j (nthSlot t j)
@@ -142,12 +127,12 @@ module _ (t : Tables) (a : Agrees t) where
       (λ (e : waitsOn (nthTask t i) (idOf (suc j) (nthSlot t j)) ≡ true).
       let w = and-both _ _ e in
       let id : nthTask t i .awaited ≡ nthSlot t j .generation * 65536 + suc j = eqb-true _ _ (w .1) in
-      let below : length (t .slots) ≤ 64 = few t (a .sizes) in
+      let below : length (t .slots) ≤ 64 = sizes-within t (a .sizes) .slots in
       let b : j < length (t .slots) = live-within t j l in
       let number : nthTask t i .awaited % 65536 ≡ suc j = omega arith in
       subst (λ (n : ℕ). occurs (suc i) (slotOf t n .queue) ≡ 1) number (waiter-once i (w .0) .1) ∙ sym (bit-yes _ e))
       (λ (e : waitsOn (nthTask t i) (idOf (suc j) (nthSlot t j)) ≡ false).
-      occurs-not (isWaiter t (idOf (suc j) (nthSlot t j))) (suc i) (absent e) (nthSlot t j .queue) (entry-waits j (live-within t j l) l) ∙ sym (bit-no _ e))
+      occurs-not (isWaiter t (idOf (suc j) (nthSlot t j))) (suc i) (absent e) (nthSlot t j .queue) (all-at _ _ (live j (live-within t j l) l .waiting)) ∙ sym (bit-no _ e))
       (tested (waitsOn (nthTask t i) (idOf (suc j) (nthSlot t j))))
     where
       absent : waitsOn (nthTask t i) (idOf (suc j) (nthSlot t j)) ≡ false → isWaiter t (idOf (suc j) (nthSlot t j)) (suc i) ≡ false
@@ -155,8 +140,8 @@ module _ (t : Tables) (a : Agrees t) where
           ⊎-elim (λ (y : isWaiter t (idOf (suc j) (nthSlot t j)) (suc i) ≡ true). never (and-both _ _ y .1) e)
           (λ (n : isWaiter t (idOf (suc j) (nthSlot t j)) (suc i) ≡ false). n) (tested (isWaiter t (idOf (suc j) (nthSlot t j)) (suc i)))
 
-  pub agrees-facts : Facts t
-  agrees-facts =
+  items-facts : Facts t
+  items-facts =
       record {
         sizes = a .sizes;
         urgent = urgent;
@@ -164,3 +149,6 @@ module _ (t : Tables) (a : Agrees t) where
         slots = everywhere (SlotFits (length (t .tasks)) (urgency t)) (t .slots) (freeSlot 0) (free-fits _ _ 0 (omega arith)) slot-fits;
         linked = record { counted = counted; named = λ i w. named-of t (nthTask t i .awaited) (waiter-once i w .0) };
       }
+
+pub agrees-facts : (t : Tables) → Agrees t → Facts t
+agrees-facts t a = items-facts t (agrees-items t a)

@@ -12,10 +12,11 @@ use Rattle.laws.specs.Choose.{choose, bit}
 use Rattle.laws.proofs.Choose.{and-both, if-yes, if-no, choose-cases}
 use Rattle.rules.specs.declared.Task.{Task}
 use Rattle.rules.specs.Machine.{Slot, Tables, noTask, freeSlot, putSlot, putTask, waits, isLive, urgency, idOf}
-use Rattle.rules.specs.Agreement.{occurs, sizesFit}
+use Rattle.rules.specs.Agreement.{isEnding, occurs, sizesFit}
 use Rattle.rules.specs.Calls.{readied, wakeAll}
 use Rattle.rules.proofs.Invariants.Lists.{set-all, set-updated, Updated, updated-cases, occurs-none}
-use Rattle.rules.proofs.Invariants.Facts.{nthTask, nthSlot, isEnding, waitsOn, TaskFits, SlotFits, Linked, Facts, waits-within, live-within, few}
+use Rattle.rules.proofs.Invariants.Agreeing.{sizes-within}
+use Rattle.rules.proofs.Invariants.Facts.{nthTask, nthSlot, waitsOn, TaskFits, SlotFits, Linked, Facts, waits-within, live-within}
 use Rattle.rules.proofs.Invariants.Links.{Shrunk, ended, joined, opened, elsewhere, once, waits-there}
 use Rattle.rules.proofs.Invariants.Waking.{obtained-ends, ending-ready, readied-fits, wakeAll-slots, wakeAll-length, wakeAll-task, wokenOf}
 
@@ -36,7 +37,7 @@ facts-step t t′ f N S same tasks slots linked =
 
 module _ (t : Tables) (f : Facts t) where
   pub below : (j : ℕ) → isLive (nthSlot t j) ≡ true → j < 64
-  below j l = omega (arith, live-within t j l, few t (f .sizes))
+  below j l = omega (arith, live-within t j l, sizes-within t (f .sizes) .slots)
 
   -- the tasks ws leave the queue of slot j and are woken; the slot becomes s
   module _ (j : ℕ) (s : Slot) (ws : List ℕ) (a : ℕ) (l : isLive (nthSlot t j) ≡ true) (ends : isEnding a ≡ true) (fits : SlotFits (length (t .tasks)) (urgency t) s)
@@ -121,8 +122,7 @@ module _ (t : Tables) (f : Facts t) where
   created j s h free fits empty =
       facts-step t (putSlot t (suc j) s) f refl (length-set (t .slots) j s) (λ i. refl) (f .tasks)
       (set-all (SlotFits (length (t .tasks)) (urgency t)) (t .slots) j s (freeSlot 0) (f .slots) fits)
-      (opened (nthTask t) (nthSlot t) below (f .linked) (nthSlot (putSlot t (suc j) s)) j s (set-updated (t .slots) j s (freeSlot 0) h)
-      (omega (arith, few t (f .sizes))) free empty)
+      (opened (nthTask t) (nthSlot t) below (f .linked) (nthSlot (putSlot t (suc j) s)) j s (set-updated (t .slots) j s (freeSlot 0) h) (omega (arith, sizes-within t (f .sizes) .slots)) free empty)
 
   -- task c, which did not wait, joins the queue of slot j, which becomes s
   pub waited : (c j : ℕ) (v : Task) (s : Slot) → c < length (t .tasks) → waits (nthTask t c) ≡ false → isLive (nthSlot t j) ≡ true

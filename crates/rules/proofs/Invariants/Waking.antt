@@ -13,10 +13,10 @@ use Rattle.laws.specs.Choose.{choose}
 use Rattle.laws.proofs.Choose.{tested, if-le, if-not-le, or-either, or-second, choose-cases}
 use Rattle.rules.specs.declared.Task.{Task}
 use Rattle.rules.specs.Machine.{Tables, noTask, taskOf}
-use Rattle.rules.specs.Agreement.{occurs}
+use Rattle.rules.specs.Agreement.{isEnding, occurs}
 use Rattle.rules.specs.Calls.{readied, wake, wakeAll}
 use Rattle.rules.proofs.Invariants.Lists.{bit-yes, bit-no, bit-same, occurs-none, occurs-cons}
-use Rattle.rules.proofs.Invariants.Facts.{nthTask, isEnding, TaskFits}
+use Rattle.rules.proofs.Invariants.Facts.{nthTask, TaskFits}
 
 -- the four endings of a wait
 pub obtained-ends : isEnding 0 ≡ true
