@@ -1,6 +1,8 @@
-pub mod Fine
-pub mod Queues
+pub mod Marks
+pub mod Entries
+pub mod Passes
 pub mod Cases
-pub mod Places
-pub mod Records
-pub mod Whole
+pub mod Queues
+pub mod Slots
+pub mod Model
+pub mod Bytes

@@ -1,40 +1,70 @@
--- How often a task stands in the first places of a queue.
-use mathlib.Core.Path.{_≡_, refl, ap, _∙_}
-use mathlib.Core.List.{List, [], _∷_}
-use mathlib.Core.Bool.{Bool}
-use Prim.Native.Nat.{ℕ, zero, suc, _+_, _≤_, _<_}
-use native.Mathlib.Nat.{not-suc-le-zero}
-use native.Mathlib.Numerals.{add-one}
+-- A queue tested place by place.
+use mathlib.Core.Path.{_≡_, refl, ap, sym, _∙_}
+use mathlib.Core.Bool.{Bool, true, false}
+use mathlib.Core.List.{List}
+use Prim.Native.Nat.{ℕ, zero, suc, pred, _+_, _≤_, _<_}
 use native.Mathlib.Omega.{arith}
-use lib.Dec.{eqb}
-use lib.ListN.{length, getD, take}
-use Rattle.laws.specs.Choose.{bit}
-use Rattle.laws.proofs.Choose.{choose-cases}
-use Rattle.rules.specs.Agreement.{occurs}
+use native.Mathlib.Numerals.{add-one}
+use lib.ListN.{length, getD, set}
+use Rattle.laws.specs.Choose.{_and_, isnt}
+use Rattle.laws.proofs.Choose.{never, if-yes, if-no, both-and, false-isnt}
+use Rattle.laws.specs.All.{all}
+use Rattle.laws.proofs.All.{all-none, all-more, all-not}
+use Rattle.rules.specs.declared.Task.{Task}
+use Rattle.rules.specs.Numbers.{byPriority}
+use Rattle.rules.specs.Machine.{Slot, Tables, taskOf}
+use Rattle.agreement.specs.Tests.{seenAt, urgencyBefore, isApart, isInTurn, entryAgrees, queueAgrees, Marked}
 
-pub bit-few : (b : Bool) → bit b ≤ 1
-bit-few b = choose-cases (λ (n : ℕ). n ≤ 1) b 1 0 (λ e. omega arith) (λ e. omega arith)
+module _ (t : Tables) (first : List Bool) (id : ℕ) (s : Slot) where
+  -- what a queue's test answers and leaves
+  abbrev pub Tested : Bool → List Bool → Type 0
+  Tested r seen = Marked (queueAgrees t first id s) (seenAt first (s .queue) (length (s .queue))) r seen
 
-occurs-suc : (q : ℕ) (xs : List ℕ) (k : ℕ) → k < length xs → occurs q (take (suc k) xs) ≡ occurs q (take k xs) + bit (eqb q (getD xs k 0))
-unfolding occurs
-occurs-suc q [] k h = absurd (not-suc-le-zero h)
-occurs-suc q (x ∷ xs) zero h = omega arith
-occurs-suc q (x ∷ xs) (suc k) h = omega (arith, occurs-suc q xs k (omega arith))
+  -- with the first k places passed
+  pub record Passed (k : ℕ) (seen : List Bool) (before : ℕ) : Type 0 where
+    pub within : k ≤ length (s .queue)
+    pub tests : all k (entryAgrees t first id s) ≡ true
+    pub marks : seen ≡ seenAt first (s .queue) k
+    pub urgency : before ≡ urgencyBefore t (s .queue) k
 
--- `found` is how often q stands in the first k places
-pub record Counted (q : ℕ) (queue : List ℕ) (k found : ℕ) : Type 0 where
-  pub is : found ≡ occurs q (take k queue)
-  pub few : found ≤ k
+  pub passed-none : Passed 0 first 0
+  unfolding seenAt
+  passed-none = record { within = omega arith; tests = all-none _; marks = refl; urgency = refl }
 
-pub counted-none : (q : ℕ) (queue : List ℕ) → Counted q queue 0 0
-unfolding occurs
-counted-none q queue = record { is = refl; few = omega arith }
+  pub passed-all : (k : ℕ) (seen : List Bool) (before : ℕ) → Passed k seen before → k ≡ length (s .queue) → Tested true seen
+  unfolding queueAgrees
+  passed-all k seen before p e =
+      record { answer = sym (ap (λ (n : ℕ). all n (entryAgrees t first id s)) (sym e) ∙ p .tests); marks = λ y. p .marks ∙ ap (seenAt first (s .queue)) e }
 
-pub counted-more : (q : ℕ) (queue : List ℕ) (k found more : ℕ) → k < length queue → Counted q queue k found → more ≡ bit (eqb q (getD queue k 0)) → Counted q queue (k + 1) (found + more)
-counted-more q queue k found more h c e =
-    let is : found ≡ occurs q (take k queue) = c .is in
-    let next : found + more ≡ occurs q (take (suc k) queue) = omega (arith, occurs-suc q queue k h) in
-    record { is = rw add-one next; few = omega (arith, bit-few (eqb q (getD queue k 0))) }
+  module _ (k : ℕ) (seen : List Bool) (before : ℕ) (p : Passed k seen before) (h : k < length (s .queue)) (q : ℕ) (e : q ≡ getD (s .queue) k 0) where
+    failed : (after : List Bool) → entryAgrees t first id s k ≡ false → Tested false after
+    unfolding queueAgrees
+    failed after f = record { answer = sym (all-not _ _ k h f); marks = λ y. never y refl }
 
-pub counted-queue : (q : ℕ) (queue : List ℕ) (k w found : ℕ) → k ≡ w → Counted q queue k found → found ≡ occurs q (take w queue)
-counted-queue q queue k w found e c = c .is ∙ ap (λ (k : ℕ). occurs q (take k queue)) e
+    pub not-apart : (after : List Bool) → isApart (length (t .tasks)) (s .owner) q ≡ false → Tested false after
+    unfolding entryAgrees
+    not-apart after f = failed after (if-no _ _ (sym (ap (isApart (length (t .tasks)) (s .owner)) e) ∙ f))
+
+    module _ (v : Task) (read : v ≡ taskOf t q) (apart : isApart (length (t .tasks)) (s .owner) q ≡ true) where
+      -- the test of the place, by what the code has read
+      tested-by : (isApart (length (t .tasks)) (s .owner) q and isInTurn id (byPriority (s .attributes)) before v and isnt (getD seen (pred q) false)) ≡ entryAgrees t first id s k
+      unfolding entryAgrees
+      tested-by =
+          let task : v ≡ taskOf t (getD (s .queue) k 0) = read ∙ ap (taskOf t) e in
+          λ x. isApart (length (t .tasks)) (s .owner) (e x) and isInTurn id (byPriority (s .attributes)) (p .urgency x) (task x) and isnt (getD (p .marks x) (pred (e x)) false)
+
+      pub not-in-turn : (after : List Bool) → isInTurn id (byPriority (s .attributes)) before v ≡ false → Tested false after
+      not-in-turn after f = failed after (sym tested-by ∙ if-yes _ _ apart ∙ if-no _ _ f)
+
+      pub not-fresh : (after : List Bool) → isInTurn id (byPriority (s .attributes)) before v ≡ true → getD seen (pred q) false ≡ true → Tested false after
+      not-fresh after turn f = failed after (sym tested-by ∙ if-yes _ _ apart ∙ if-yes _ _ turn ∙ if-yes _ _ f)
+
+      pub passed-more : isInTurn id (byPriority (s .attributes)) before v ≡ true → getD seen (pred q) false ≡ false → Passed (k + 1) (set seen (pred q) true) (v .priority)
+      unfolding seenAt
+      passed-more turn fresh =
+          record {
+            within = omega arith;
+            tests = all-more k _ (p .tests) (sym tested-by ∙ both-and apart (both-and turn (false-isnt _ fresh)));
+            marks = (λ x. set (p .marks x) (pred (e x)) true) ∙ ap (seenAt first (s .queue)) (sym (add-one k));
+            urgency = ap (λ (v : Task). v .priority) (read ∙ ap (taskOf t) e) ∙ ap (urgencyBefore t (s .queue)) (sym (add-one k));
+          }

@@ -1,91 +1,87 @@
--- The test for 25, task by task and slot by slot: what the code computes in one pass over the tasks and one over the slots.
-use mathlib.Core.Bool.{Bool}
-use mathlib.Core.List.{List}
-use Prim.Native.Nat.{ℕ, suc, pred, _%_}
+-- The test for 25 in the order of the code: one pass over the slots, which marks the tasks that stand in queues, and one over the tasks.
+-- What is asked of a task or a slot is cited from crates/rules/specs/Agreement.antt.
+use mathlib.Core.Path.{_≡_}
+use mathlib.Core.Bool.{Bool, true, false}
+use mathlib.Core.List.{List, []}
+use Prim.Native.Nat.{ℕ, zero, suc, pred}
 use lib.Dec.{leb, eqb}
-use lib.ListN.{length, getD}
-use Rattle.laws.specs.Choose.{choose, _and_, _or_, isnt, when}
+use lib.ListN.{length, getD, set, replicate}
+use Rattle.laws.specs.Choose.{choose, _and_, isnt, when}
 use Rattle.laws.specs.All.{all}
 use Rattle.rules.specs.declared.Task.{Task}
-use Rattle.rules.specs.Numbers.{maxPriority, maxGeneration, within, allowed, byPriority, isBinary, isSimple}
-use Rattle.rules.specs.Machine.{Slot, Tables, taskOf, slotOf, waits, isLive, idOf, names, urgency}
-use Rattle.rules.specs.Agreement.{occurs, isWaiter, sizesFit}
+use Rattle.rules.specs.Numbers.{maxPriority, maxGeneration, within, allowed, byPriority, isBinary}
+use Rattle.rules.specs.Machine.{Slot, Tables, taskOf, slotOf, waits, isLive, idOf, urgency}
+use Rattle.rules.specs.Semaphore.{requeued}
+use Rattle.rules.specs.Agreement.{isEnding, isAtRest, isWaiter, isNamedRight, isZeroWhereQueued, isOwnedRight, isUnowned, isClear}
 
--- ---- a task
+-- ---- a queue
 
--- the identifier waited on names a live semaphore, in whose queue the task stands once
-unfoldable pub waitingFine : Tables → ℕ → ℕ → Bool
-waitingFine t q id = names t id and eqb (occurs q (slotOf t (id % 65536) .queue)) 1
+-- the marks with those of the tasks at the first k places
+unfoldable pub seenAt : List Bool → List ℕ → ℕ → List Bool
+seenAt seen queue zero = seen
+seenAt seen queue (suc k) = set (seenAt seen queue k) (pred (getD queue k 0)) true
 
--- an answer that a ready task may have
-unfoldable pub isEnding : ℕ → Bool
-isEnding a = eqb a 0 or eqb a 6 or eqb a 7 or eqb a 13
+-- the urgency of the task before place k, 0 before the first
+abbrev pub urgencyBefore : Tables → List ℕ → ℕ → ℕ
+urgencyBefore t queue zero = 0
+urgencyBefore t queue (suc k) = urgency t (getD queue k 0)
 
-unfoldable pub readyFine : Task → Bool
-readyFine v = isEnding (v .answer) and eqb (v .ticks) 0 and eqb (v .awaited) 0
+-- a task of the N at place k, who is not the owner
+abbrev pub isApart : ℕ → ℕ → ℕ → Bool
+isApart N owner q = within 1 N q and isnt (eqb q owner)
 
-unfoldable pub taskFine : Tables → ℕ → Bool
-taskFine t q =
-    within 1 maxPriority (taskOf t q .priority)
-    and choose (waits (taskOf t q)) (waitingFine t q (taskOf t q .awaited)) (readyFine (taskOf t q))
+-- it waits on the identifier, and is no more urgent than the one before it if that matters
+abbrev pub isInTurn : ℕ → Bool → ℕ → Task → Bool
+isInTurn id ordered before v = waits v and eqb (v .awaited) id and when ordered (leb before (v .priority))
+
+unfoldable pub entryAgrees : Tables → List Bool → ℕ → Slot → ℕ → Bool
+entryAgrees t seen id s k =
+    isApart (length (t .tasks)) (s .owner) (getD (s .queue) k 0)
+    and isInTurn id (byPriority (s .attributes)) (urgencyBefore t (s .queue) k) (taskOf t (getD (s .queue) k 0))
+    and isnt (getD (seenAt seen (s .queue) k) (pred (getD (s .queue) k 0)) false)
+
+unfoldable pub queueAgrees : Tables → List Bool → ℕ → Slot → Bool
+queueAgrees t seen id s = all (length (s .queue)) (entryAgrees t seen id s)
 
 -- ---- a slot
 
--- all 0 but for the generation
-unfoldable pub freeFine : Slot → Bool
-freeFine s =
-    eqb (s .live) 0 and eqb (s .name) 0 and eqb (s .attributes) 0 and eqb (s .count) 0 and eqb (s .owner) 0 and eqb (s .nest) 0
-    and eqb (length (s .queue)) 0
+-- count, owner and nest by the class; that its owner is not in its queue is tested with the queue
+abbrev pub classAgrees : ℕ → Slot → Bool
+classAgrees N s = choose (isBinary (s .attributes)) (isOwnedRight N (requeued s [])) (isUnowned s)
 
--- each entry is a task that waits on the identifier
-unfoldable pub entriesWait : Tables → ℕ → List ℕ → Bool
-entriesWait t id queue = all (length queue) (λ k. isWaiter t id (getD queue k 0))
+-- the numbers of a live semaphore
+unfoldable pub headAgrees : ℕ → Slot → Bool
+headAgrees N s =
+    isNamedRight s and allowed (s .attributes) and classAgrees N s and isZeroWhereQueued s
 
--- in order of priority number
-unfoldable pub isOrdered : Tables → List ℕ → Bool
-isOrdered t queue = all (pred (length queue)) (λ k. leb (urgency t (getD queue k 0)) (urgency t (getD queue (suc k) 0)))
+unfoldable pub slotAgrees : Tables → List Bool → ℕ → Slot → Bool
+slotAgrees t seen n s =
+    leb (s .generation) maxGeneration
+    and choose (isLive s) (headAgrees (length (t .tasks)) s and queueAgrees t seen (idOf n s) s) (eqb (s .live) 0 and isClear s)
 
--- a non-empty queue means count 0
-unfoldable pub countFine : Slot → Bool
-countFine s = when (leb 1 (length (s .queue))) (eqb (s .count) 0)
+-- the marks with those of a slot's queue, if it is live
+unfoldable pub seenWith : List Bool → Slot → List Bool
+seenWith seen s = choose (isLive s) (seenAt seen (s .queue) (length (s .queue))) seen
 
-unfoldable pub queueFine : Tables → ℕ → Slot → Bool
-queueFine t id s =
-    countFine s
-    and entriesWait t id (s .queue)
-    and when (byPriority (s .attributes)) (isOrdered t (s .queue))
+-- what a pass answers and leaves
+pub record Marked (agrees : Bool) (after : List Bool) (r : Bool) (seen : List Bool) : Type 0 where
+  pub answer : r ≡ agrees
+  pub marks : r ≡ true → seen ≡ after
 
--- a binary semaphore: nobody's at count 1, or at count 0 the one of a task of the N who is not in its queue
-unfoldable pub binaryFine : ℕ → Slot → Bool
-binaryFine N s =
-    (eqb (s .count) 1 and eqb (s .owner) 0 and eqb (s .nest) 0)
-    or (eqb (s .count) 0 and within 1 N (s .owner) and eqb (occurs (s .owner) (s .queue)) 0 and leb 1 (s .nest))
+-- ---- a task, and whether it is marked
 
--- one of another class
-unfoldable pub otherFine : Slot → Bool
-otherFine s = eqb (s .owner) 0 and eqb (s .nest) 0 and when (isSimple (s .attributes)) (leb (s .count) 1)
-
-unfoldable pub classFine : ℕ → Slot → Bool
-classFine N s = choose (isBinary (s .attributes)) (binaryFine N s) (otherFine s)
-
-unfoldable pub liveFine : Tables → ℕ → Slot → Bool
-liveFine t n s =
-    leb 1 (s .generation) and isnt (eqb (s .name) 0) and allowed (s .attributes) and classFine (length (t .tasks)) s
-    and queueFine t (idOf n s) s
-
-unfoldable pub slotFine : Tables → ℕ → Bool
-slotFine t n =
-    leb (slotOf t n .generation) maxGeneration
-    and choose (isLive (slotOf t n)) (liveFine t n (slotOf t n)) (freeFine (slotOf t n))
+unfoldable pub taskAgrees : Bool → Task → Bool
+taskAgrees seen v = within 1 maxPriority (v .priority) and choose (waits v) seen (isEnding (v .answer) and isAtRest v)
 
 -- ---- the tables
 
-unfoldable pub tasksFine : Tables → Bool
-tasksFine t = all (length (t .tasks)) (λ i. taskFine t (suc i))
+-- the marks of the first i slots
+unfoldable pub seenBelow : Tables → ℕ → List Bool
+seenBelow t zero = replicate 32 false
+seenBelow t (suc i) = seenWith (seenBelow t i) (slotOf t (suc i))
 
-unfoldable pub slotsFine : Tables → Bool
-slotsFine t = all (length (t .slots)) (λ i. slotFine t (suc i))
+unfoldable pub slotsAgree : Tables → Bool
+slotsAgree t = all (length (t .slots)) (λ i. slotAgrees t (seenBelow t i) (suc i) (slotOf t (suc i)))
 
--- one pass over the tasks, one over the slots
-unfoldable pub isFine : Tables → Bool
-isFine t = sizesFit t and tasksFine t and slotsFine t
+unfoldable pub tasksAgree : Tables → Bool
+tasksAgree t = all (length (t .tasks)) (λ i. taskAgrees (getD (seenBelow t (length (t .slots))) i false) (taskOf t (suc i)))

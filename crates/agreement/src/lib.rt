@@ -1,46 +1,219 @@
-// The test for 25: whether lent bytes are the layout of tables that agree. Nothing here writes.
+// The test for 25: whether lent bytes are the layout of tables that agree. Each task and each place of a queue is read once. Nothing here writes to them.
 use rules::Task;
+use tables::Head;
 ghost use mathlib.Core.Path.{_≡_};
-ghost use mathlib.Core.List.{List};
-ghost use Prim.Native.Nat.{ℕ, suc, _+_, _≤_, _<_};
-ghost use lib.Dec.{eqb};
+ghost use mathlib.Core.List.{List, []};
+ghost use Prim.Native.Nat.{ℕ, suc, _+_, _*_, _≤_, _<_};
 ghost use lib.ListN.{length};
-ghost use Rattle.laws.specs.Choose.{bit};
+ghost use Rattle.laws.specs.Choose.{_and_};
 ghost use Rattle.words.specs.Words.{wordAt};
-ghost use Rattle.rules.specs.Agreement.{occurs, isWaiter};
-ghost use Rattle.tables.specs.Layout.{tablesLength, slotPlace, modelOf};
-ghost use Rattle.tables.specs.Sizes.{Sized};
-ghost use Rattle.agreement.specs.Tests.{waitingFine, isEnding, readyFine, taskFine, entriesWait, isOrdered, countFine, queueFine, binaryFine, otherFine, classFine, liveFine, slotFine, tasksFine, slotsFine};
-ghost use Rattle.agreement.specs.Bytes.{Bounded, countsFit, agreesBytes, headAt, queueAt, slotWith};
+ghost use Rattle.rules.specs.Numbers.{byPriority};
+ghost use Rattle.rules.specs.Machine.{slotOf};
+ghost use Rattle.rules.specs.Agreement.{countsFit, isEnding, isAtRest, isZeroWhereQueued, isOwnedRight, isUnowned, isClear};
+ghost use Rattle.tables.specs.Layout.{headOf, slotWith, recordAt, modelOf};
+ghost use Rattle.tables.specs.Sizes.{Bounded};
+ghost use Rattle.agreement.specs.Tests.{isApart, isInTurn, queueAgrees, headAgrees, classAgrees, slotAgrees, seenAt, seenWith, Marked, taskAgrees, seenBelow, slotsAgree, tasksAgree};
+ghost use Rattle.agreement.specs.Bytes.{agreesBytes};
 
-// The words of a slot before its queue, which is read where it lies.
-struct Head {
-    generation: u32,
-    live: u32,
-    name: u32,
-    attributes: u32,
-    count: u32,
-    owner: u32,
-    nest: u32,
-    waiters: u32,
-}
+// ---- a slot
 
-fn load_head(m: &[u8], i: usize) -> Head
-    requires { ⌜ (length (now m) ≡ tablesLength) × (i < 64) ⌝ }
-    ensures { λ r. ⌜ r ≡ headAt (now (m .entry)) i ⌝ }
+// A binary semaphore's count, owner and nest, with N tasks.
+fn is_owned_right(tasks: u32, s: Head) -> bool
+    ensures { λ r. ⌜ r ≡ isOwnedRight tasks (slotWith s []) ⌝ }
 {
-    let at = 130 + 40 * i;
-    Head {
-        generation: words::word(m, at),
-        live: words::word(m, at + 1),
-        name: words::word(m, at + 2),
-        attributes: words::word(m, at + 3),
-        count: words::word(m, at + 4),
-        owner: words::word(m, at + 5),
-        nest: words::word(m, at + 6),
-        waiters: words::word(m, at + 7),
+    if s.count == 1 {
+        if s.owner != 0 {
+            return false;
+        }
+        return s.nest == 0;
     }
+    if s.count != 0 {
+        return false;
+    }
+    if s.owner == 0 {
+        return false;
+    }
+    if tasks < s.owner {
+        return false;
+    }
+    0 < s.nest
 }
+
+// The same of a semaphore of another class.
+fn is_unowned(s: Head) -> bool
+    ensures { λ r. ⌜ ((queue : List ℕ) → r ≡ isUnowned (slotWith s queue)) ⌝ }
+{
+    if s.owner != 0 {
+        return false;
+    }
+    if s.nest != 0 {
+        return false;
+    }
+    if rules::is_simple(s.attributes) {
+        return s.count <= 1;
+    }
+    true
+}
+
+fn is_class_right(tasks: u32, s: Head) -> bool
+    ensures { λ r. ⌜ ((queue : List ℕ) → r ≡ classAgrees tasks (slotWith s queue)) ⌝ }
+{
+    if rules::is_binary(s.attributes) {
+        return is_owned_right(tasks, s);
+    }
+    is_unowned(s)
+}
+
+// A non-empty queue means count 0.
+fn is_zero_where_queued(s: Head) -> bool
+    ensures { λ r. ⌜ ((queue : List ℕ) → length queue ≡ s .waiters → r ≡ isZeroWhereQueued (slotWith s queue)) ⌝ }
+{
+    if s.waiters == 0 {
+        return true;
+    }
+    s.count == 0
+}
+
+// The numbers of a live semaphore.
+fn is_head_agreeing(tasks: u32, s: Head) -> bool
+    ensures { λ r. ⌜ ((queue : List ℕ) → length queue ≡ s .waiters → r ≡ headAgrees tasks (slotWith s queue)) ⌝ }
+{
+    if s.generation == 0 {
+        return false;
+    }
+    if s.name == 0 {
+        return false;
+    }
+    if !rules::is_allowed(s.attributes) {
+        return false;
+    }
+    if !is_class_right(tasks, s) {
+        return false;
+    }
+    is_zero_where_queued(s)
+}
+
+// A free slot is 0 but for its generation.
+fn is_clear(s: Head) -> bool
+    ensures { λ r. ⌜ ((queue : List ℕ) → length queue ≡ s .waiters → r ≡ isClear (slotWith s queue)) ⌝ }
+{
+    if s.name != 0 {
+        return false;
+    }
+    if s.attributes != 0 {
+        return false;
+    }
+    if s.count != 0 {
+        return false;
+    }
+    if s.owner != 0 {
+        return false;
+    }
+    if s.nest != 0 {
+        return false;
+    }
+    s.waiters == 0
+}
+
+// Whether a queue may hold the number: a task's, and not the owner's.
+fn is_apart(tasks: u32, owner: u32, q: u32) -> bool
+    ensures { λ r. ⌜ r ≡ isApart tasks owner q ⌝ }
+{
+    if q == 0 {
+        return false;
+    }
+    if tasks < q {
+        return false;
+    }
+    if q == owner {
+        return false;
+    }
+    true
+}
+
+// Whether a task waits on the identifier, and with PRIORITY is no more urgent than the one before it.
+fn is_in_turn(id: u32, attributes: u32, before: u32, v: Task) -> bool
+    ensures { λ r. ⌜ r ≡ isInTurn id (byPriority attributes) before v ⌝ }
+{
+    if v.answer != rules::WAITING {
+        return false;
+    }
+    if v.awaited != id {
+        return false;
+    }
+    if rules::is_by_priority(attributes) {
+        return before <= v.priority;
+    }
+    true
+}
+
+// The queue of slot i. Each of its tasks is marked, and none twice: a task waits on one semaphore only.
+fn is_queue_agreeing(m: &[u8], i: usize, id: u32, s: Head, seen: &mut [bool; 32]) -> bool
+    requires { ⌜ Bounded (now m) × (i < wordAt (now m) 1) × (s ≡ headOf (recordAt (now m) i)) ⌝ }
+    ensures { λ r. ⌜ Marked (queueAgrees (modelOf (now (m .entry))) (now (seen .entry)) id (slotOf (modelOf (now (m .entry))) (suc i))) (seenAt (now (seen .entry)) (slotOf (modelOf (now (m .entry))) (suc i) .queue) (length (slotOf (modelOf (now (m .entry))) (suc i) .queue))) r (now (seen .exit)) ⌝ }
+{
+    let tasks = tables::task_count(m);
+    let waiters = s.waiters as usize;
+    let mut before: u32 = 0;
+    let mut k = 0;
+    while k < waiters {
+        let q = tables::queue_entry(m, i, k);
+        if !is_apart(tasks, s.owner, q) {
+            return false;
+        }
+        let at = (q - 1) as usize;
+        let v = tables::load_task(m, at);
+        if !is_in_turn(id, s.attributes, before, v) {
+            return false;
+        }
+        if seen[at] {
+            return false;
+        }
+        seen[at] = true;
+        before = v.priority;
+        k += 1;
+    }
+    true
+}
+
+// Slot i, counted from 0.
+fn is_slot_agreeing(m: &[u8], i: usize, seen: &mut [bool; 32]) -> bool
+    requires { ⌜ Bounded (now m) × (i < wordAt (now m) 1) ⌝ }
+    ensures { λ r. ⌜ Marked (slotAgrees (modelOf (now (m .entry))) (now (seen .entry)) (suc i) (slotOf (modelOf (now (m .entry))) (suc i))) (seenWith (now (seen .entry)) (slotOf (modelOf (now (m .entry))) (suc i))) r (now (seen .exit)) ⌝ }
+{
+    let s = tables::load_head(m, i);
+    if rules::MAX_GENERATION < s.generation {
+        return false;
+    }
+    if s.live == 0 {
+        return is_clear(s);
+    }
+    if s.live != 1 {
+        return false;
+    }
+    if !is_head_agreeing(tables::task_count(m), s) {
+        return false;
+    }
+    let id = s.generation * rules::GENERATION_UNIT + (i as u32 + 1);
+    is_queue_agreeing(m, i, id, s, seen)
+}
+
+fn are_slots_agreeing(m: &[u8], seen: &mut [bool; 32]) -> bool
+    requires { ⌜ Bounded (now m) × (now seen ≡ seenBelow (modelOf (now m)) 0) ⌝ }
+    ensures { λ r. ⌜ Marked (slotsAgree (modelOf (now (m .entry)))) (seenBelow (modelOf (now (m .entry))) (wordAt (now (m .entry)) 1)) r (now (seen .exit)) ⌝ }
+{
+    let slots = tables::slot_count(m) as usize;
+    let mut i = 0;
+    while i < slots {
+        if !is_slot_agreeing(m, i, seen) {
+            return false;
+        }
+        i += 1;
+    }
+    true
+}
+
+// ---- a task
 
 // An answer that a ready task may have.
 fn is_ending(answer: u32) -> bool
@@ -58,9 +231,8 @@ fn is_ending(answer: u32) -> bool
     answer == rules::UNSATISFIED
 }
 
-// A ready task: its answer is an ending, and it waits on nothing.
-fn is_ready_fine(v: Task) -> bool
-    ensures { λ r. ⌜ r ≡ readyFine v ⌝ }
+fn is_ready(v: Task) -> bool
+    ensures { λ r. ⌜ r ≡ (isEnding (v .answer) and isAtRest v) ⌝ }
 {
     if !is_ending(v.answer) {
         return false;
@@ -71,241 +243,10 @@ fn is_ready_fine(v: Task) -> bool
     v.awaited == 0
 }
 
-// 1 for two equal tasks, else 0.
-fn same(q: u32, x: u32) -> u32
-    ensures { λ r. ⌜ r ≡ bit (eqb q x) ⌝ }
+// A task that waits stands in a queue, where it was marked.
+fn is_task_agreeing(seen: bool, v: Task) -> bool
+    ensures { λ r. ⌜ r ≡ taskAgrees seen v ⌝ }
 {
-    if q == x {
-        return 1;
-    }
-    0
-}
-
-// How often a task stands in the queue of slot i.
-fn occurrences(m: &[u8], i: usize, q: u32) -> u32
-    requires { ⌜ Bounded (now m) × (i < wordAt (now m) 1) ⌝ }
-    ensures { λ r. ⌜ r ≡ occurs q (queueAt (now (m .entry)) i) ⌝ }
-{
-    let at = 130 + 40 * i;
-    let waiters = words::word(m, at + 7) as usize;
-    let mut found: u32 = 0;
-    let mut k = 0;
-    while k < waiters {
-        found += same(q, words::word(m, at + 8 + k));
-        k += 1;
-    }
-    found
-}
-
-// A binary semaphore's count, owner and nest, with N tasks.
-fn is_binary_fine(m: &[u8], tasks: u32, i: usize, s: Head) -> bool
-    requires { ⌜ Bounded (now m) × (i < wordAt (now m) 1) ⌝ }
-    ensures { λ r. ⌜ r ≡ binaryFine tasks (slotWith s (queueAt (now (m .entry)) i)) ⌝ }
-{
-    let owner = s.owner;
-    let nest = s.nest;
-    if s.count == 1 {
-        if owner != 0 {
-            return false;
-        }
-        return nest == 0;
-    }
-    if s.count != 0 {
-        return false;
-    }
-    if owner == 0 {
-        return false;
-    }
-    if tasks < owner {
-        return false;
-    }
-    if occurrences(m, i, owner) != 0 {
-        return false;
-    }
-    0 < nest
-}
-
-// The same of a semaphore of another class.
-fn is_other_fine(s: Head) -> bool
-    ensures { λ r. ⌜ ((qs : List ℕ) → r ≡ otherFine (slotWith s qs)) ⌝ }
-{
-    if s.owner != 0 {
-        return false;
-    }
-    if s.nest != 0 {
-        return false;
-    }
-    if rules::is_simple(s.attributes) {
-        return s.count <= 1;
-    }
-    true
-}
-
-fn is_class_fine(m: &[u8], tasks: u32, i: usize, s: Head) -> bool
-    requires { ⌜ Bounded (now m) × (i < wordAt (now m) 1) ⌝ }
-    ensures { λ r. ⌜ r ≡ classFine tasks (slotWith s (queueAt (now (m .entry)) i)) ⌝ }
-{
-    if rules::is_binary(s.attributes) {
-        return is_binary_fine(m, tasks, i, s);
-    }
-    is_other_fine(s)
-}
-
-// A non-empty queue means count 0.
-fn is_count_fine(s: Head) -> bool
-    ensures { λ r. ⌜ ((qs : List ℕ) → length qs ≡ s .waiters → r ≡ countFine (slotWith s qs)) ⌝ }
-{
-    if s.waiters == 0 {
-        return true;
-    }
-    s.count == 0
-}
-
-// Whether q is a task that waits on the identifier.
-fn is_waiter(m: &[u8], id: u32, q: u32) -> bool
-    requires { ⌜ Sized (now m) ⌝ }
-    ensures { λ r. ⌜ r ≡ isWaiter (modelOf (now (m .entry))) id q ⌝ }
-{
-    if q == 0 {
-        return false;
-    }
-    if tables::task_count(m) < q {
-        return false;
-    }
-    let v = tables::load_task(m, (q - 1) as usize);
-    if v.answer != rules::WAITING {
-        return false;
-    }
-    v.awaited == id
-}
-
-fn do_entries_wait(m: &[u8], id: u32, i: usize) -> bool
-    requires { ⌜ Bounded (now m) × (i < wordAt (now m) 1) ⌝ }
-    ensures { λ r. ⌜ r ≡ entriesWait (modelOf (now (m .entry))) id (queueAt (now (m .entry)) i) ⌝ }
-{
-    let at = 130 + 40 * i;
-    let waiters = words::word(m, at + 7) as usize;
-    let mut k = 0;
-    while k < waiters {
-        if !is_waiter(m, id, words::word(m, at + 8 + k)) {
-            return false;
-        }
-        k += 1;
-    }
-    true
-}
-
-// Whether the queue of slot i is in order of priority number.
-fn is_ordered(m: &[u8], i: usize) -> bool
-    requires { ⌜ Bounded (now m) × (i < wordAt (now m) 1) ⌝ }
-    ensures { λ r. ⌜ r ≡ isOrdered (modelOf (now (m .entry))) (queueAt (now (m .entry)) i) ⌝ }
-{
-    let at = 130 + 40 * i;
-    let waiters = words::word(m, at + 7) as usize;
-    let mut k = 0;
-    while k + 1 < waiters {
-        let ahead = lookup::priority_of(m, words::word(m, at + 8 + k));
-        let behind = lookup::priority_of(m, words::word(m, at + 8 + (k + 1)));
-        if behind < ahead {
-            return false;
-        }
-        k += 1;
-    }
-    true
-}
-
-fn is_queue_fine(m: &[u8], id: u32, i: usize, s: Head) -> bool
-    requires { ⌜ Bounded (now m) × (i < wordAt (now m) 1) × (s .waiters ≡ wordAt (now m) (slotPlace i + 7)) ⌝ }
-    ensures { λ r. ⌜ r ≡ queueFine (modelOf (now (m .entry))) id (slotWith s (queueAt (now (m .entry)) i)) ⌝ }
-{
-    if !is_count_fine(s) {
-        return false;
-    }
-    if !do_entries_wait(m, id, i) {
-        return false;
-    }
-    if rules::is_by_priority(s.attributes) {
-        return is_ordered(m, i);
-    }
-    true
-}
-
-// The live semaphore of slot i, counted from 0.
-fn is_live_fine(m: &[u8], i: u32, s: Head) -> bool
-    requires { ⌜ Bounded (now m) × (i < wordAt (now m) 1) × (s .waiters ≡ wordAt (now m) (slotPlace i + 7)) × (s .generation ≤ 65535) ⌝ }
-    ensures { λ r. ⌜ r ≡ liveFine (modelOf (now (m .entry))) (i + 1) (slotWith s (queueAt (now (m .entry)) i)) ⌝ }
-{
-    let generation = s.generation;
-    if generation == 0 {
-        return false;
-    }
-    if s.name == 0 {
-        return false;
-    }
-    if !rules::is_allowed(s.attributes) {
-        return false;
-    }
-    let tasks = tables::task_count(m);
-    if !is_class_fine(m, tasks, i as usize, s) {
-        return false;
-    }
-    is_queue_fine(
-        m,
-        generation * rules::GENERATION_UNIT + (i + 1),
-        i as usize,
-        s,
-    )
-}
-
-// Slot i, counted from 0. A free one is 0 but for the generation.
-fn is_slot_fine(m: &[u8], i: u32) -> bool
-    requires { ⌜ Bounded (now m) × (i < wordAt (now m) 1) ⌝ }
-    ensures { λ r. ⌜ r ≡ slotFine (modelOf (now (m .entry))) (suc i) ⌝ }
-{
-    let at = 130 + 40 * (i as usize);
-    if rules::MAX_GENERATION < words::word(m, at) {
-        return false;
-    }
-    if words::word(m, at + 1) != 1 {
-        return words::is_blank(m, at + 1, at + 8);
-    }
-    let s = load_head(m, i as usize);
-    is_live_fine(m, i, s)
-}
-
-fn are_slots_fine(m: &[u8]) -> bool
-    requires { ⌜ Bounded (now m) ⌝ }
-    ensures { λ r. ⌜ r ≡ slotsFine (modelOf (now (m .entry))) ⌝ }
-{
-    let slots = tables::slot_count(m);
-    let mut i: u32 = 0;
-    while i < slots {
-        if !is_slot_fine(m, i) {
-            return false;
-        }
-        i += 1;
-    }
-    true
-}
-
-// Task q waits on the identifier: it stands once, in the queue of the live semaphore named.
-fn is_waiting_fine(m: &[u8], q: u32, id: u32) -> bool
-    requires { ⌜ Bounded (now m) ⌝ }
-    ensures { λ r. ⌜ r ≡ waitingFine (modelOf (now (m .entry))) q id ⌝ }
-{
-    let n = lookup::slot_named(m, id);
-    if n == 0 {
-        return false;
-    }
-    occurrences(m, (n - 1) as usize, q) == 1
-}
-
-// Task i, counted from 0.
-fn is_task_fine(m: &[u8], i: u32) -> bool
-    requires { ⌜ Bounded (now m) × (i < wordAt (now m) 0) ⌝ }
-    ensures { λ r. ⌜ r ≡ taskFine (modelOf (now (m .entry))) (suc i) ⌝ }
-{
-    let v = tables::load_task(m, i as usize);
     if v.priority == 0 {
         return false;
     }
@@ -313,25 +254,28 @@ fn is_task_fine(m: &[u8], i: u32) -> bool
         return false;
     }
     if v.answer == rules::WAITING {
-        return is_waiting_fine(m, i + 1, v.awaited);
+        return seen;
     }
-    is_ready_fine(v)
+    is_ready(v)
 }
 
-fn are_tasks_fine(m: &[u8]) -> bool
-    requires { ⌜ Bounded (now m) ⌝ }
-    ensures { λ r. ⌜ r ≡ tasksFine (modelOf (now (m .entry))) ⌝ }
+fn are_tasks_agreeing(m: &[u8], seen: &[bool; 32]) -> bool
+    requires { ⌜ Bounded (now m) × (now seen ≡ seenBelow (modelOf (now m)) (wordAt (now m) 1)) ⌝ }
+    ensures { λ r. ⌜ r ≡ tasksAgree (modelOf (now (m .entry))) ⌝ }
 {
-    let tasks = tables::task_count(m);
-    let mut i: u32 = 0;
+    let tasks = tables::task_count(m) as usize;
+    let mut i = 0;
     while i < tasks {
-        if !is_task_fine(m, i) {
+        let v = tables::load_task(m, i);
+        if !is_task_agreeing(seen[i], v) {
             return false;
         }
         i += 1;
     }
     true
 }
+
+// ---- the tables
 
 // Whether N and S are both 0, or both in range.
 fn do_counts_fit(tasks: u32, slots: u32) -> bool
@@ -356,13 +300,12 @@ pub fn is_agreeing(m: &[u8]) -> bool
     if !tables::is_layout(m) {
         return false;
     }
-    let tasks = tables::task_count(m);
-    let slots = tables::slot_count(m);
-    if !do_counts_fit(tasks, slots) {
+    if !do_counts_fit(tables::task_count(m), tables::slot_count(m)) {
         return false;
     }
-    if !are_tasks_fine(m) {
+    let mut seen = [false; 32];
+    if !are_slots_agreeing(m, &mut seen) {
         return false;
     }
-    are_slots_fine(m)
+    are_tasks_agreeing(m, &seen)
 }

@@ -1,13 +1,15 @@
 -- `agreement::is_agreeing` meets its contract: each return is a case of the whole test.
 use borrow.Author.Needs.{needs}
-use mathlib.Core.Path.{_≡_, ap₂, sym, _∙_}
+use mathlib.Core.Path.{_≡_, refl, ap₂, sym, _∙_}
 use mathlib.Core.Bool.{true, false}
 use borrow.Author.Tests.{not-true, not-false}
 use Rattle.laws.proofs.Choose.{cases}
 use Rattle.words.specs.Words.{wordAt}
+use Rattle.rules.specs.Agreement.{countsFit}
 use Rattle.tables.specs.Layout.{isLaid}
-use Rattle.agreement.specs.Bytes.{countsFit, agreesBytes}
-use Rattle.agreement.proofs.Whole.{bytesTests, laid-bounded, bytes-tested}
+use Rattle.agreement.specs.Tests.{seenBelow}
+use Rattle.agreement.specs.Bytes.{agreesBytes}
+use Rattle.agreement.proofs.Bytes.{bytesTests, laid-bounded, bytes-tested}
 use Rattle.agreement.proofs.is_agreeing.Statement.{statement}
 use Rattle.agreement.proofs.is_agreeing.Tie as tie
 
@@ -46,30 +48,33 @@ returns-2 c =
     let h₂ = sym (counts (c .before)) ∙ not-true _ (c .if2 .taken) in
     search cases ∙ tests (at .before)
 
-are-tasks-fine-requires : tie.Need-are-tasks-fine-requires
-are-tasks-fine-requires c κs = laid-bounded _ (laid (c .before .before .before .before))
+are-slots-agreeing-requires : tie.Need-are-slots-agreeing-requires
+unfolding seenBelow
+are-slots-agreeing-requires c κs = (laid-bounded _ (laid (c .before .before .before .before .before)), refl)
 
 returns-3 : tie.Need-returns-3
 returns-3 c =
-    let passed = c .before .before in
+    let passed = c .before .before .before in
     let at = passed .before .before .before .before in
     let h₁ = laid at in
     let h₂ = sym (counts (passed .before)) ∙ not-false _ (passed .if2 .left) in
-    let h₃ = sym (c .before .are-tasks-fine .ensures) ∙ not-true _ (c .if3 .taken) in
+    let h₃ = sym (c .before .are-slots-agreeing .ensures .answer) ∙ not-true _ (c .if3 .taken) in
     search cases ∙ tests (at .before)
 
-are-slots-fine-requires : tie.Need-are-slots-fine-requires
-are-slots-fine-requires c κs = laid-bounded _ (laid (c .before .before .before .before .before .before))
+are-tasks-agreeing-requires : tie.Need-are-tasks-agreeing-requires
+are-tasks-agreeing-requires c κs =
+    let last = c .before in
+    (laid-bounded _ (laid (last .before .before .before .before .before .before .before)), last .before .are-slots-agreeing .ensures .marks (not-false _ (last .if3 .left)))
 
 returns-4 : tie.Need-returns-4
 returns-4 c =
-    let last = c .before in
-    let passed = last .before .before in
+    let last = c .before .before in
+    let passed = last .before .before .before in
     let at = passed .before .before .before .before in
     let h₁ = laid at in
     let h₂ = sym (counts (passed .before)) ∙ not-false _ (passed .if2 .left) in
-    let h₃ = sym (last .before .are-tasks-fine .ensures) ∙ not-false _ (last .if3 .left) in
-    c .are-slots-fine .ensures ∙ search cases ∙ tests (at .before)
+    let h₃ = sym (last .before .are-slots-agreeing .ensures .answer) ∙ not-false _ (last .if3 .left) in
+    c .are-tasks-agreeing .ensures ∙ search cases ∙ tests (at .before)
 
 pub is-agreeing-spec : {M : Type 1} → statement M
 is-agreeing-spec =
@@ -81,7 +86,7 @@ is-agreeing-spec =
     slot-count-requires
     do-counts-fit-requires
     returns-2
-    are-tasks-fine-requires
+    are-slots-agreeing-requires
     returns-3
-    are-slots-fine-requires
+    are-tasks-agreeing-requires
     returns-4)

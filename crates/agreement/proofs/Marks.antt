@@ -1,0 +1,120 @@
+-- The marks of the tasks that stand in queues: who is marked stands in a live slot's queue, and who stands in one is marked.
+use mathlib.Core.Path.{_≡_, refl, sym, subst, _∙_}
+use mathlib.Core.Bool.{Bool, true, false}
+use mathlib.Core.List.{List}
+use mathlib.Core.Logic.{_⊎_, inl, inr, ⊎-elim}
+use Prim.Native.Nat.{ℕ, zero, suc, pred, _≤_, _<_}
+use native.Mathlib.Omega.{arith}
+use native.Mathlib.Nat.{not-suc-le-zero}
+use native.Mathlib.Decide.{ℕ-discrete, decLt}
+use lib.ListN.{length, getD, set, replicate, length-set, length-replicate, getD-replicate, List·getD-eq-default}
+use lib.Seq.{getD-set-same, getD-set-other, set-out}
+use Rattle.laws.specs.Choose.{choose}
+use Rattle.laws.proofs.Choose.{choose-cases, if-yes, if-no, tested, never}
+use Rattle.rules.specs.Machine.{Slot, Tables, isLive, slotOf}
+use Rattle.rules.proofs.Invariants.Lists.{set-cases}
+use Rattle.rules.proofs.Invariants.Facts.{nthSlot}
+use Rattle.agreement.specs.Tests.{seenAt, seenWith, seenBelow}
+
+-- a mark stays
+mark-kept : (l : List Bool) (i p : ℕ) → getD l p false ≡ true → getD (set l i true) p false ≡ true
+mark-kept l i p e =
+    elim (decLt i (length l)) [
+      | yes h ↦ set-cases (λ k b. b ≡ true) l i true false p h (λ s. refl) (λ n. e)
+      | no n ↦ let out : length l ≤ i = omega arith in rw (set-out l i true out) e
+    ]
+
+-- ---- of one queue
+
+-- a place before n whose task has the mark p
+pub record Place (queue : List ℕ) (n p : ℕ) : Type 0 where
+  pub place : ℕ
+  pub within : place < n
+  pub is : pred (getD queue place 0) ≡ p
+
+module _ (seen : List Bool) (queue : List ℕ) where
+  pub length-seen : (k : ℕ) → length (seenAt seen queue k) ≡ length seen
+  unfolding seenAt
+  length-seen zero = refl
+  length-seen (suc k) = length-set (seenAt seen queue k) _ true ∙ length-seen k
+
+  seen-kept : (k p : ℕ) → getD seen p false ≡ true → getD (seenAt seen queue k) p false ≡ true
+  unfolding seenAt
+  seen-kept zero p e = e
+  seen-kept (suc k) p e = mark-kept (seenAt seen queue k) _ p (seen-kept k p e)
+
+  pub seen-made : (k j : ℕ) → j < k → pred (getD queue j 0) < length seen → getD (seenAt seen queue k) (pred (getD queue j 0)) false ≡ true
+  unfolding seenAt
+  seen-made zero j h b = absurd (not-suc-le-zero h)
+  seen-made (suc k) j h b =
+      elim (ℕ-discrete j k) [
+        | yes e ↦ subst (λ (j : ℕ). pred (getD queue j 0) < length seen → getD (set (seenAt seen queue k) (pred (getD queue k 0)) true) (pred (getD queue j 0)) false ≡ true) (sym e)
+            (λ b. getD-set-same (seenAt seen queue k) _ true false (omega (arith, length-seen k))) b
+        | no n ↦ mark-kept (seenAt seen queue k) _ _ (seen-made k j (omega arith) b)
+      ]
+
+  -- a mark was there, or is that of a place
+  pub seen-from : (k p : ℕ) → getD (seenAt seen queue k) p false ≡ true → (getD seen p false ≡ true) ⊎ Place queue k p
+  unfolding seenAt
+  seen-from zero p e = inl e
+  seen-from (suc k) p e =
+      elim (ℕ-discrete p (pred (getD queue k 0))) [
+        | yes s ↦ inr (record { place = k; within = omega arith; is = sym s })
+        | no n ↦
+            ⊎-elim (λ (s : getD seen p false ≡ true). inl s) (λ (s : Place queue k p). inr (record { place = s .place; within = omega (arith, s .within); is = s .is }))
+            (seen-from k p (sym (getD-set-other (seenAt seen queue k) _ p true false n) ∙ e))
+      ]
+
+-- ---- of the first i slots
+
+-- a place of a live slot before i
+pub record Stands (t : Tables) (i p : ℕ) : Type 0 where
+  pub slot : ℕ
+  pub below : slot < i
+  pub live : isLive (nthSlot t slot) ≡ true
+  pub at : Place (nthSlot t slot .queue) (length (nthSlot t slot .queue)) p
+
+module _ (t : Tables) where
+  pub length-below : (i : ℕ) → length (seenBelow t i) ≡ 32
+  unfolding seenBelow seenWith
+  length-below zero = length-replicate 32 false
+  length-below (suc i) =
+      choose-cases (λ (l : List Bool). length l ≡ 32) (isLive (nthSlot t i)) _ _ (λ l. length-seen (seenBelow t i) (nthSlot t i .queue) _ ∙ length-below i) (λ l. length-below i)
+
+  pub below-made : (i n k : ℕ) → n < i → isLive (nthSlot t n) ≡ true → k < length (nthSlot t n .queue) → pred (getD (nthSlot t n .queue) k 0) < 32 → getD (seenBelow t i) (pred (getD (nthSlot t n .queue) k 0)) false ≡ true
+  unfolding seenBelow seenWith
+  below-made zero n k h l b w = absurd (not-suc-le-zero h)
+  below-made (suc i) n k h l b w =
+      elim (ℕ-discrete n i) [
+        | yes e ↦ subst (λ (n : ℕ). isLive (nthSlot t n) ≡ true → k < length (nthSlot t n .queue) → pred (getD (nthSlot t n .queue) k 0) < 32 → getD (seenBelow t (suc i)) (pred (getD (nthSlot t n .queue) k 0)) false ≡ true) (sym e) here l b w
+        | no d ↦
+            let before = below-made i n k (omega arith) l b w in
+            choose-cases (λ (l : List Bool). getD l (pred (getD (nthSlot t n .queue) k 0)) false ≡ true) (isLive (nthSlot t i)) _ _ (λ l. seen-kept (seenBelow t i) (nthSlot t i .queue) _ _ before) (λ l. before)
+      ]
+    where
+      here : isLive (nthSlot t i) ≡ true → k < length (nthSlot t i .queue) → pred (getD (nthSlot t i .queue) k 0) < 32 → getD (seenBelow t (suc i)) (pred (getD (nthSlot t i .queue) k 0)) false ≡ true
+      here l b w =
+          subst (λ (l : List Bool). getD l (pred (getD (nthSlot t i .queue) k 0)) false ≡ true) (sym (if-yes _ _ l))
+          (seen-made (seenBelow t i) (nthSlot t i .queue) _ k b (omega (arith, length-below i)))
+
+  pub below-from : (i p : ℕ) → getD (seenBelow t i) p false ≡ true → Stands t i p
+  unfolding seenBelow seenWith
+  below-from zero p e = never e (none p)
+    where
+      none : (p : ℕ) → getD (replicate 32 false) p false ≡ false
+      none p =
+          elim (decLt p 32) [
+            | yes h ↦ getD-replicate 32 p false false h
+            | no n ↦ let out : length (replicate 32 false) ≤ p = omega (arith, length-replicate 32 false) in List·getD-eq-default (replicate 32 false) false out
+          ]
+  below-from (suc i) p e =
+      ⊎-elim (live (below-from i p)) (λ l. later (below-from i p (subst (λ (m : List Bool). getD m p false ≡ true) (if-no _ _ l) e))) (tested (isLive (nthSlot t i)))
+    where
+      later : Stands t i p → Stands t (suc i) p
+      later s = record { slot = s .slot; below = omega (arith, s .below); live = s .live; at = s .at }
+
+      live : (getD (seenBelow t i) p false ≡ true → Stands t i p) → isLive (nthSlot t i) ≡ true → Stands t (suc i) p
+      live before l =
+          ⊎-elim (λ (s : getD (seenBelow t i) p false ≡ true). later (before s))
+          (λ (s : Place (nthSlot t i .queue) (length (nthSlot t i .queue)) p). record { slot = i; below = omega arith; live = l; at = s })
+          (seen-from (seenBelow t i) (nthSlot t i .queue) _ p (subst (λ (m : List Bool). getD m p false ≡ true) (if-yes _ _ l) e))

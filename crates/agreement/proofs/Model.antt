@@ -1,0 +1,51 @@
+-- What the code reads of lent bytes is what their model has.
+use mathlib.Core.Path.{_≡_, ap, sym, subst, _∙_}
+use mathlib.Core.Bool.{Bool}
+use mathlib.Core.List.{List}
+use Prim.Native.Nat.{ℕ, suc, pred, _+_, _-_, _≤_, _<_}
+use native.Mathlib.Omega.{arith}
+use lib.ListN.{length, getD, take}
+use lib.Seq.{length-take-le, getD-take}
+use Rattle.laws.proofs.Fit.{length-tabulate}
+use Rattle.words.specs.Words.{wordAt}
+use Rattle.rules.specs.declared.Task.{Task}
+use Rattle.rules.specs.Machine.{Slot, taskOf, slotOf}
+use Rattle.semaphore.specs.Record.{slotFrom}
+use Rattle.tables.specs.declared.Head.{Head}
+use Rattle.tables.specs.Layout.{slotPlace, taskAt, headOf, slotWith, recordAt, modelOf}
+use Rattle.tables.specs.Sizes.{Bounded}
+use Rattle.lookup.proofs.Model.{task-read, slot-read}
+use Rattle.agreement.proofs.Queues.{Tested}
+use Rattle.agreement.proofs.Slots.{SlotTested}
+
+-- the waiters of slot i, counted from 0
+abbrev pub queueIn : List ℕ → ℕ → List ℕ
+queueIn bs i = take (recordAt bs i .waiters) (recordAt bs i .queue)
+
+module _ (bs : List ℕ) (b : Bounded bs) (i : ℕ) (h : i < wordAt bs 1) where
+  places : length (recordAt bs i .queue) ≡ 32
+  unfolding recordAt
+  places = length-tabulate 32 (λ k. wordAt bs (slotPlace i + 8 + k))
+
+  pub queue-length : length (queueIn bs i) ≡ recordAt bs i .waiters
+  queue-length = length-take-le (recordAt bs i .waiters) (recordAt bs i .queue) (omega (arith, places, b .queues i h))
+
+  pub slot-with : (s : Head) → s ≡ headOf (recordAt bs i) → slotOf (modelOf bs) (suc i) ≡ slotWith s (queueIn bs i)
+  slot-with s e = slot-read bs i h ∙ ap (λ (s : Head). slotWith s (queueIn bs i)) (sym e)
+
+  pub entry-read : (k q : ℕ) → k < recordAt bs i .waiters → q ≡ getD (recordAt bs i .queue) k 0 → q ≡ getD (queueIn bs i) k 0
+  entry-read k q l e = e ∙ sym (getD-take (recordAt bs i .waiters) (recordAt bs i .queue) k 0 l)
+
+  -- what is told of the head and the waiters is told of the slot
+  pub queue-told : (s : Head) → s ≡ headOf (recordAt bs i) → (first : List Bool) (id : ℕ) (r : Bool) (seen : List Bool) → Tested (modelOf bs) first id (slotWith s (queueIn bs i)) r seen → Tested (modelOf bs) first id (slotOf (modelOf bs) (suc i)) r seen
+  queue-told s e first id r seen = subst (λ (z : Slot). Tested (modelOf bs) first id z r seen) (sym (slot-with s e))
+
+  pub slot-told : (s : Head) → s ≡ headOf (recordAt bs i) → (first : List Bool) (r : Bool) (seen : List Bool) → SlotTested (modelOf bs) first (suc i) (slotWith s (queueIn bs i)) r seen → SlotTested (modelOf bs) first (suc i) (slotOf (modelOf bs) (suc i)) r seen
+  slot-told s e first r seen = subst (λ (z : Slot). SlotTested (modelOf bs) first (suc i) z r seen) (sym (slot-with s e))
+
+  -- and back, for what a callee told of the slot
+  pub told-queue : (s : Head) → s ≡ headOf (recordAt bs i) → (first : List Bool) (id : ℕ) (r : Bool) (seen : List Bool) → Tested (modelOf bs) first id (slotOf (modelOf bs) (suc i)) r seen → Tested (modelOf bs) first id (slotWith s (queueIn bs i)) r seen
+  told-queue s e first id r seen = subst (λ (z : Slot). Tested (modelOf bs) first id z r seen) (slot-with s e)
+
+pub task-of : (bs : List ℕ) (q i : ℕ) (v : Task) → 1 ≤ q → q ≤ wordAt bs 0 → i ≡ q - 1 → v ≡ taskAt bs i → v ≡ taskOf (modelOf bs) q
+task-of bs q i v low high e r = let at : i ≡ pred q = omega arith in r ∙ ap (taskAt bs) at ∙ sym (task-read bs (pred q) (omega arith))

@@ -1,0 +1,294 @@
+-- The pass over the slots and the pass over the tasks are agreement, for tables whose numbers fit 32 bits.
+use mathlib.Core.Path.{_≡_, refl, ap, sym, subst, _∙_}
+use mathlib.Core.Bool.{Bool, true, false}
+use mathlib.Core.List.{List, []}
+use mathlib.Core.Logic.{⊎-elim}
+use Prim.Native.Nat.{ℕ, zero, suc, pred, _%_, _+_, _*_, _≤_, _<_}
+use native.Mathlib.Omega.{arith}
+use native.Mathlib.Decide.{decLt}
+use lib.Dec.{leb, eqb}
+use lib.ListN.{length, getD}
+use borrow.Author.Tests.{leb-true, eqb-true, eqb-false, eq-eqb, le-leb}
+use Rattle.laws.specs.Choose.{choose, _and_, _or_}
+use Rattle.laws.proofs.Choose.{tested, never, same-test, choose-cases, if-yes, if-no, and-both, both-and, or-either, or-first, or-second}
+use Rattle.laws.proofs.All.{all-at, all-of}
+use Rattle.rules.specs.Numbers.{maxNumber, byPriority, isBinary}
+use Rattle.rules.specs.Machine.{Slot, Tables, taskOf, slotOf, waits, isLive, idOf, urgency}
+use Rattle.rules.specs.Semaphore.{requeued}
+use Rattle.rules.specs.Agreement.{Agrees, agrees, sizesFit, occurs, isWaiter, isQueuedOnce, isOwnedRight, isClear, isEnding, answerFits}
+use Rattle.rules.proofs.Invariants.Lists.{bit-yes, bit-most, occurs-none, occurs-at}
+use Rattle.rules.proofs.Invariants.Agreeing.{Sizes, TaskAgrees, LiveAgrees, SlotAgrees, ItemsAgree, sizes-within, agrees-true, true-agrees, agrees-items, items-agree}
+use Rattle.rules.proofs.Invariants.Facts.{nthTask, nthSlot, waitsOn, Unheld, Held, Facts, live-within}
+use Rattle.rules.proofs.Invariants.FromTests.{agrees-facts}
+use Rattle.rules.proofs.Invariants.ToTests.{names-of}
+use Rattle.agreement.specs.Tests.{seenAt, urgencyBefore, seenBelow, entryAgrees, queueAgrees, classAgrees, headAgrees, slotAgrees, taskAgrees, slotsAgree, tasksAgree}
+use Rattle.agreement.proofs.Marks.{Place, Stands, length-below, seen-made, seen-from, below-made, below-from}
+use Rattle.agreement.proofs.Entries.{EntryFits, entry-fits, fits-entry, occurs-apart, occurs-once, occurs-twice, occurs-found}
+
+-- the numbers that have no other limit than their 32 bits
+pub record Narrow (t : Tables) : Type 0 where
+  pub awaited : (q : ℕ) → taskOf t q .awaited ≤ maxNumber
+  pub ticks : (q : ℕ) → taskOf t q .ticks ≤ maxNumber
+  pub name : (n : ℕ) → slotOf t n .name ≤ maxNumber
+  pub count : (n : ℕ) → slotOf t n .count ≤ maxNumber
+  pub nest : (n : ℕ) → slotOf t n .nest ≤ maxNumber
+
+-- the task at place k of the queue of slot j, counted from 0
+abbrev taskAt : Tables → ℕ → ℕ → ℕ
+taskAt t j k = getD (nthSlot t j .queue) k 0
+
+-- a choice between tests that holds
+chosen : (a b c : Bool) → choose a b c ≡ true → a ≡ true → b ≡ true
+chosen a b c e y = sym (if-yes _ _ y) ∙ e
+
+other : (a b c : Bool) → choose a b c ≡ true → a ≡ false → c ≡ true
+other a b c e n = sym (if-no _ _ n) ∙ e
+
+either : (a b c : Bool) → (a ≡ true → b ≡ true) → (a ≡ false → c ≡ true) → choose a b c ≡ true
+either a b c = choose-cases (λ (r : Bool). r ≡ true) a b c
+
+-- a semaphore owned right, with another queue that its owner is not in
+owned-with : (N : ℕ) (s : Slot) (queue : List ℕ) → occurs (s .owner) queue ≡ 0 → isOwnedRight N s ≡ true → isOwnedRight N (requeued s queue) ≡ true
+owned-with N s queue apart e =
+    ⊎-elim (λ (a : (eqb (s .count) 1 and eqb (s .owner) 0 and eqb (s .nest) 0) ≡ true). or-first _ _ a)
+    (λ b.
+    let f = and-both _ _ b in
+    let g = and-both _ _ (f .1) in
+    or-second _ _ (both-and (f .0) (both-and (g .0) (both-and (eq-eqb _ _ apart) (and-both _ _ (g .1) .1)))))
+    (or-either _ _ e)
+
+-- ---- the tests give the clauses
+
+module _ (t : Tables) (sizes : Sizes t) (seen : List Bool) (long : length seen ≡ 32) (n : ℕ) (s : Slot) (e : slotAgrees t seen n s ≡ true) where
+  when-live : isLive s ≡ true → (headAgrees (length (t .tasks)) s ≡ true) × ((k : ℕ) → k < length (s .queue) → EntryFits t seen (idOf n s) s k)
+  unfolding slotAgrees queueAgrees
+  when-live l =
+      let f = and-both _ _ (chosen _ _ _ (and-both _ _ e .1) l) in
+      (f .0, λ k h. entry-fits t seen (idOf n s) s k (all-at _ _ (f .1) k h))
+
+  pub entry : isLive s ≡ true → (k : ℕ) → k < length (s .queue) → EntryFits t seen (idOf n s) s k
+  entry l = when-live l .1
+
+  when-free : isLive s ≡ false → (eqb (s .live) 0 and isClear s) ≡ true
+  unfolding slotAgrees
+  when-free l = other _ _ _ (and-both _ _ e .1) l
+
+  at-most-one : s .live ≤ 1
+  at-most-one =
+      ⊎-elim (λ (l : isLive s ≡ true). let one : s .live ≡ 1 = eqb-true _ _ l in omega arith)
+      (λ (l : isLive s ≡ false). let none : s .live ≡ 0 = eqb-true _ _ (and-both _ _ (when-free l) .0) in omega arith)
+      (tested (isLive s))
+
+  -- a task stands at one place: where it stands first it is marked
+  first : isLive s ≡ true → (j k : ℕ) → j < k → k < length (s .queue) → getD (s .queue) j 0 ≡ getD (s .queue) k 0 → ⊥
+  first l j k b h same =
+      let task = and-both _ _ (entry l k h .waiter) .0 in
+      let most : getD (s .queue) k 0 ≤ length (t .tasks) = leb-true _ _ (and-both _ _ task .1) in
+      let marked = seen-made seen (s .queue) k j b (omega (arith, sizes .tasks)) in
+      never (subst (λ (q : ℕ). getD (seenAt seen (s .queue) k) (pred q) false ≡ true) same marked) (entry l k h .fresh)
+
+  pub once : isLive s ≡ true → (k : ℕ) → k < length (s .queue) → occurs (getD (s .queue) k 0) (s .queue) ≡ 1
+  once l k h = occurs-once (s .queue) k h same
+    where
+      same : (j : ℕ) → j < length (s .queue) → getD (s .queue) j 0 ≡ getD (s .queue) k 0 → j ≡ k
+      same j b q =
+          elim (decLt j k) [
+            | yes p ↦ absurd (first l j k p h q)
+            | no p ↦ elim (decLt k j) [ yes r ↦ absurd (first l k j r b (sym q)) | no r ↦ omega arith ]
+          ]
+
+  live-agrees : isLive s ≡ true → LiveAgrees t n s
+  unfolding headAgrees
+  live-agrees l =
+      let named = and-both _ _ (when-live l .0) in
+      let attributed = and-both _ _ (named .1) in
+      let class = and-both _ _ (attributed .1) in
+      let apart = occurs-apart (s .owner) (s .queue) (λ k h. entry l k h .apart) in
+      record {
+        named = named .0;
+        attributed = attributed .0;
+        waiting = all-of _ _ (λ k h. entry l k h .waiter);
+        ordered = λ b. all-of _ _ (λ k h. le-leb _ _ (entry l (suc k) (omega arith) .ordered b));
+        atZero = class .1;
+        owned = λ b. owned-with (length (t .tasks)) (requeued s []) (s .queue) apart (chosen _ _ _ (class .0) b);
+        unowned = λ b. other _ _ _ (class .0) b;
+      }
+
+  pub slot-agrees : s .name ≤ maxNumber → s .count ≤ maxNumber → s .nest ≤ maxNumber → SlotAgrees t n s
+  unfolding slotAgrees
+  slot-agrees name count nest =
+      record {
+        numbers = both-and (and-both _ _ e .0) (both-and (le-leb _ _ at-most-one) (both-and (le-leb _ _ name) (both-and (le-leb _ _ count) (le-leb _ _ nest))));
+        whenLive = live-agrees;
+        whenFree = λ l. and-both _ _ (when-free l) .1;
+      }
+
+module _ (t : Tables) (narrow : Narrow t) (fit : sizesFit t ≡ true) (slots : slotsAgree t ≡ true) (tasks : tasksAgree t ≡ true) where
+  slot-test : (j : ℕ) → j < length (t .slots) → slotAgrees t (seenBelow t j) (suc j) (nthSlot t j) ≡ true
+  unfolding slotsAgree
+  slot-test = all-at _ _ slots
+
+  -- a mark is that of a task who stands once in the queue of the live semaphore that it waits on
+  marked-once : (i : ℕ) → getD (seenBelow t (length (t .slots))) i false ≡ true → isQueuedOnce t (suc i) (nthTask t i .awaited) ≡ true
+  marked-once i m =
+      let s = below-from t (length (t .slots)) i m in
+      let j : ℕ = s .slot in
+      let k : ℕ = s .at .place in
+      let q : ℕ = getD (nthSlot t j .queue) k 0 in
+      let place = entry t (sizes-within t fit) (seenBelow t j) (length-below t j) (suc j) (nthSlot t j) (slot-test j (s .below)) (s .live) k (s .at .within) in
+      let waiter = and-both _ _ (place .waiter) in
+      let least : 1 ≤ q = leb-true _ _ (and-both _ _ (waiter .0) .0) in
+      let number : q ≡ suc i = omega (arith, s .at .is) in
+      let awaited : taskOf t q .awaited ≡ idOf (suc j) (nthSlot t j) = eqb-true _ _ (and-both _ _ (waiter .1) .1) in
+      let is : nthTask t i .awaited ≡ idOf (suc j) (nthSlot t j) = subst (λ (q : ℕ). taskOf t q .awaited ≡ idOf (suc j) (nthSlot t j)) number awaited in
+      let named = names-of t fit (nthTask t i .awaited) (record { place = j; live = s .live; is = is }) in
+      let one = once t (sizes-within t fit) (seenBelow t j) (length-below t j) (suc j) (nthSlot t j) (slot-test j (s .below)) (s .live) k (s .at .within) in
+      both-and (named .0)
+      (eq-eqb _ _
+      (subst (λ (n : ℕ). occurs (suc i) (slotOf t n .queue) ≡ 1) (sym (named .1)) (subst (λ (q : ℕ). occurs q (nthSlot t j .queue) ≡ 1) number one)))
+
+  task-agrees : (i : ℕ) → i < length (t .tasks) → TaskAgrees t (suc i) (nthTask t i)
+  unfolding tasksAgree taskAgrees
+  task-agrees i h =
+      let f = and-both _ _ (all-at _ _ tasks i h) in
+      record {
+        numbers = both-and (f .0) (both-and (le-leb _ _ (narrow .awaited (suc i))) (le-leb _ _ (narrow .ticks (suc i))));
+        answer = ⊎-elim (λ w. or-first _ _ w) (λ w. or-second _ _ (and-both _ _ (other _ _ _ (f .1) w) .0)) (tested (waits (nthTask t i)));
+        waiter = λ w. marked-once i (chosen _ _ _ (f .1) w);
+        atRest = λ w. and-both _ _ (other _ _ _ (f .1) w) .1;
+      }
+
+  tests-items : ItemsAgree t
+  tests-items =
+      record {
+        sizes = fit;
+        task = task-agrees;
+        slot = λ j h. slot-agrees t (sizes-within t fit) (seenBelow t j) (length-below t j) (suc j) (nthSlot t j) (slot-test j h) (narrow .name (suc j)) (narrow .count (suc j)) (narrow .nest (suc j));
+      }
+
+-- ---- and the clauses the tests
+
+module _ (t : Tables) (a : Agrees t) where
+  items : ItemsAgree t
+  items = agrees-items t a
+
+  facts : Facts t
+  facts = agrees-facts t a
+
+  sizes : Sizes t
+  sizes = sizes-within t (a .sizes)
+
+  -- a task at a place of a live slot's queue
+  module _ (j : ℕ) (l : isLive (nthSlot t j) ≡ true) (k : ℕ) (b : k < length (nthSlot t j .queue)) where
+    waiter : isWaiter t (idOf (suc j) (nthSlot t j)) (taskAt t j k) ≡ true
+    waiter = all-at _ _ (items .slot j (live-within t j l) .whenLive l .waiting) k b
+
+    least : 1 ≤ taskAt t j k
+    least = leb-true _ _ (and-both _ _ (and-both _ _ waiter .0) .0)
+
+    awaited : taskOf t (taskAt t j k) .awaited ≡ idOf (suc j) (nthSlot t j)
+    awaited = eqb-true _ _ (and-both _ _ (and-both _ _ waiter .1) .1)
+
+    most-once : occurs (taskAt t j k) (nthSlot t j .queue) ≤ 1
+    most-once =
+        let number : suc (pred (taskAt t j k)) ≡ taskAt t j k = omega (arith, least) in
+        subst (λ (q : ℕ). occurs q (nthSlot t j .queue) ≤ 1) number (omega (arith, facts .linked .counted (pred (taskAt t j k)) j l, bit-most (waitsOn (nthTask t (pred (taskAt t j k))) (idOf (suc j) (nthSlot t j)))))
+
+    apart : taskAt t j k ≡ nthSlot t j .owner → ⊥
+    apart e =
+        let fits = facts .slots j .whenLive l in
+        ⊎-elim
+        (λ (y : isBinary (nthSlot t j .attributes) ≡ true).
+        ⊎-elim (λ (u : Unheld (nthSlot t j)). omega (arith, least, u .owner))
+        (λ (u : Held (length (t .tasks)) (nthSlot t j)).
+        omega (arith, u .apart, subst (λ (q : ℕ). 1 ≤ occurs q (nthSlot t j .queue)) e (occurs-at (nthSlot t j .queue) k b)))
+        (fits .owned y))
+        (λ (y : isBinary (nthSlot t j .attributes) ≡ false). omega (arith, least, fits .unowned y .owner))
+        (tested (isBinary (nthSlot t j .attributes)))
+
+  module _ (j : ℕ) (l : isLive (nthSlot t j) ≡ true) (k : ℕ) (b : k < length (nthSlot t j .queue)) where
+    -- a task waits on one semaphore only
+    elsewhere : (n : ℕ) (m : isLive (nthSlot t n) ≡ true) (i : ℕ) (c : i < length (nthSlot t n .queue)) → n < j → taskAt t n i ≡ taskAt t j k → ⊥
+    elsewhere n m i c h e =
+        let here : taskOf t (taskAt t j k) .awaited ≡ nthSlot t j .generation * 65536 + suc j = awaited j l k b in
+        let there : taskOf t (taskAt t j k) .awaited ≡ nthSlot t n .generation * 65536 + suc n = sym (ap (λ (q : ℕ). taskOf t q .awaited) e) ∙ awaited n m i c in
+        omega (arith, sizes .slots, live-within t j l)
+
+    -- so nobody has marked it: no slot before this one, and no place before this one
+    fresh : getD (seenAt (seenBelow t j) (nthSlot t j .queue) k) (pred (taskAt t j k)) false ≡ false
+    fresh =
+        ⊎-elim
+        (λ (m : getD (seenAt (seenBelow t j) (nthSlot t j .queue) k) (pred (taskAt t j k)) false ≡ true).
+        absurd (⊎-elim before here (seen-from (seenBelow t j) (nthSlot t j .queue) k _ m)))
+        (λ (n : getD (seenAt (seenBelow t j) (nthSlot t j .queue) k) (pred (taskAt t j k)) false ≡ false). n)
+        (tested (getD (seenAt (seenBelow t j) (nthSlot t j .queue) k) (pred (taskAt t j k)) false))
+      where
+        here : Place (nthSlot t j .queue) k (pred (taskAt t j k)) → ⊥
+        here p =
+            let same : taskAt t j (p .place) ≡ taskAt t j k = omega (arith, p .is, least j l k b, least j l (p .place) (omega (arith, p .within))) in
+            omega (arith, occurs-twice (nthSlot t j .queue) (p .place) k (p .within) b same, most-once j l k b)
+
+        before : getD (seenBelow t j) (pred (taskAt t j k)) false ≡ true → ⊥
+        before m =
+            let s = below-from t j _ m in
+            elsewhere (s .slot) (s .live) (s .at .place) (s .at .within) (s .below) (omega (arith, s .at .is, least j l k b, least (s .slot) (s .live) (s .at .place) (s .at .within)))
+
+    entry-agrees : entryAgrees t (seenBelow t j) (idOf (suc j) (nthSlot t j)) (nthSlot t j) k ≡ true
+    entry-agrees = fits-entry t (seenBelow t j) _ (nthSlot t j) k (record { waiter = waiter j l k b; apart = apart j l k b; ordered = ordered k b; fresh = fresh })
+      where
+        ordered : (k : ℕ) → k < length (nthSlot t j .queue) → byPriority (nthSlot t j .attributes) ≡ true → urgencyBefore t (nthSlot t j .queue) k ≤ urgency t (taskAt t j k)
+        ordered zero b p = omega arith
+        ordered (suc k) b p = leb-true _ _ (all-at _ _ (items .slot j (live-within t j l) .whenLive l .ordered p) k (omega arith))
+
+  slot-tested : (j : ℕ) → j < length (t .slots) → slotAgrees t (seenBelow t j) (suc j) (nthSlot t j) ≡ true
+  unfolding slotAgrees headAgrees queueAgrees
+  slot-tested j h =
+      let numbers = and-both _ _ (items .slot j h .numbers) in
+      both-and (numbers .0) (either _ _ _ live (free (and-both _ _ (numbers .1) .0)))
+    where
+      live : isLive (nthSlot t j) ≡ true → (headAgrees (length (t .tasks)) (nthSlot t j) and queueAgrees t (seenBelow t j) (idOf (suc j) (nthSlot t j)) (nthSlot t j)) ≡ true
+      live l =
+          let s = items .slot j h .whenLive l in
+          both-and
+          (both-and (s .named) (both-and (s .attributed) (both-and (either _ _ _ (λ y. owned-with (length (t .tasks)) (nthSlot t j) [] (occurs-none _) (s .owned y)) (s .unowned)) (s .atZero))))
+          (all-of _ _ (entry-agrees j l))
+
+      free : leb (nthSlot t j .live) 1 ≡ true → isLive (nthSlot t j) ≡ false → (eqb (nthSlot t j .live) 0 and isClear (nthSlot t j)) ≡ true
+      free most l =
+          let other : nthSlot t j .live ≡ 1 → ⊥ = eqb-false _ _ l in
+          let at-most : nthSlot t j .live ≤ 1 = leb-true _ _ most in
+          let none : nthSlot t j .live ≡ 0 = omega arith in
+          both-and (eq-eqb _ _ none) (items .slot j h .whenFree l)
+
+  task-tested : (i : ℕ) → i < length (t .tasks) → taskAgrees (getD (seenBelow t (length (t .slots))) i false) (nthTask t i) ≡ true
+  unfolding taskAgrees
+  task-tested i h =
+      let v = items .task i h in
+      both-and (and-both _ _ (v .numbers) .0) (either _ _ _ marked (λ w. both-and (ready w (v .answer)) (v .atRest w)))
+    where
+      ready : waits (nthTask t i) ≡ false → answerFits (nthTask t i) ≡ true → isEnding (nthTask t i .answer) ≡ true
+      ready w e = sym (if-no _ _ w) ∙ e
+
+      marked : waits (nthTask t i) ≡ true → getD (seenBelow t (length (t .slots))) i false ≡ true
+      marked w =
+          let n = facts .linked .named i w in
+          let here : waitsOn (nthTask t i) (idOf (suc (n .place)) (nthSlot t (n .place))) ≡ true = both-and w (eq-eqb _ _ (n .is)) in
+          let found = occurs-found (suc i) (nthSlot t (n .place) .queue) (omega (arith, facts .linked .counted i (n .place) (n .live), bit-yes _ here)) in
+          let number : pred (taskAt t (n .place) (found .place)) ≡ i = ap pred (found .is) in
+          subst (λ (p : ℕ). getD (seenBelow t (length (t .slots))) p false ≡ true) number
+          (below-made t (length (t .slots)) (n .place) (found .place) (live-within t (n .place) (n .live)) (n .live) (found .within) (omega (arith, sizes .tasks)))
+
+-- ---- the whole
+
+pub agrees-passes : (t : Tables) → Narrow t → (sizesFit t and slotsAgree t and tasksAgree t) ≡ agrees t
+unfolding slotsAgree tasksAgree
+agrees-passes t narrow = same-test _ _ there back
+  where
+    there : (sizesFit t and slotsAgree t and tasksAgree t) ≡ true → agrees t ≡ true
+    there e =
+        let f = and-both _ _ e in
+        let g = and-both _ _ (f .1) in
+        agrees-true t (items-agree t (tests-items t narrow (f .0) (g .0) (g .1)))
+
+    back : agrees t ≡ true → (sizesFit t and slotsAgree t and tasksAgree t) ≡ true
+    back e = let a = true-agrees t e in both-and (a .sizes) (both-and (all-of _ _ (slot-tested t a)) (all-of _ _ (task-tested t a)))
