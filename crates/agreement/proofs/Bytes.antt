@@ -12,7 +12,7 @@ use Rattle.laws.proofs.Choose.{never, and-both}
 use Rattle.laws.specs.All.{all}
 use Rattle.laws.proofs.All.{all-at, all-not}
 use Rattle.words.specs.Words.{wordAt}
-use Rattle.words.proofs.WordsInBytes.{Bytes, wordAt-below}
+use Rattle.words.proofs.WordsInBytes.{Bytes}
 use Rattle.rules.specs.declared.Task.{Task}
 use Rattle.rules.specs.Numbers.{maxNumber}
 use Rattle.rules.specs.Machine.{Slot, noTask, freeSlot, taskOf, slotOf}
@@ -20,6 +20,7 @@ use Rattle.rules.specs.Agreement.{countsFit, sizesFit}
 use Rattle.rules.proofs.Invariants.Facts.{everywhere}
 use Rattle.tables.specs.Layout.{taskPlace, slotPlace, taskAt, recordAt, modelOf, isQueueLaid, isLaid}
 use Rattle.tables.specs.Sizes.{Bounded}
+use Rattle.tables.proofs.LayoutRead.{task-below, record-below}
 use Rattle.lookup.proofs.Model.{length-tasks, length-slots, task-read, slot-read}
 use Rattle.agreement.specs.Tests.{slotAgrees, taskAgrees, seenWith, seenBelow, Marked, slotsAgree, tasksAgree}
 use Rattle.agreement.specs.Bytes.{agreesBytes}
@@ -90,22 +91,22 @@ record NarrowSlot (s : Slot) : Type 0 where
 
 module _ (bs : List ℕ) (b : Bytes bs) where
   narrow-task : (i : ℕ) → NarrowTask (getD (modelOf bs .tasks) i noTask)
-  unfolding taskAt
   narrow-task =
       everywhere NarrowTask (modelOf bs .tasks) noTask (record { awaited = omega arith; ticks = omega arith })
       (λ i h.
-      let word = wordAt-below bs b in
       rw (task-read bs i (omega (arith, length-tasks bs)))
-      (record { awaited = omega (arith, word (taskPlace i + 2)); ticks = omega (arith, word (taskPlace i + 3)) }))
+      (record { awaited = omega (arith, task-below bs b i 2); ticks = omega (arith, task-below bs b i 3) }))
 
   narrow-slot : (i : ℕ) → NarrowSlot (getD (modelOf bs .slots) i (freeSlot 0))
-  unfolding recordAt
   narrow-slot =
       everywhere NarrowSlot (modelOf bs .slots) (freeSlot 0) (record { name = omega arith; count = omega arith; nest = omega arith })
       (λ i h.
-      let word = wordAt-below bs b in
       rw (slot-read bs i (omega (arith, length-slots bs)))
-      (record { name = omega (arith, word (slotPlace i + 2)); count = omega (arith, word (slotPlace i + 4)); nest = omega (arith, word (slotPlace i + 6)) }))
+      (record {
+        name = omega (arith, record-below bs b i 2);
+        count = omega (arith, record-below bs b i 4);
+        nest = omega (arith, record-below bs b i 6);
+      }))
 
   narrow : Narrow (modelOf bs)
   narrow =

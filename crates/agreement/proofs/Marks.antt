@@ -12,17 +12,13 @@ use lib.Seq.{getD-set-same, getD-set-other, set-out}
 use Rattle.laws.specs.Choose.{choose}
 use Rattle.laws.proofs.Choose.{choose-cases, if-yes, if-no, tested, never}
 use Rattle.rules.specs.Machine.{Slot, Tables, isLive, slotOf}
-use Rattle.rules.proofs.Invariants.Lists.{set-cases}
+use Rattle.laws.proofs.Fit.{set-cases}
 use Rattle.rules.proofs.Invariants.Facts.{nthSlot}
 use Rattle.agreement.specs.Tests.{seenAt, seenWith, seenBelow}
 
 -- a mark stays
 mark-kept : (l : List Bool) (i p : ℕ) → getD l p false ≡ true → getD (set l i true) p false ≡ true
-mark-kept l i p e =
-    elim (decLt i (length l)) [
-      | yes h ↦ set-cases (λ k b. b ≡ true) l i true false p h (λ s. refl) (λ n. e)
-      | no n ↦ let out : length l ≤ i = omega arith in rw (set-out l i true out) e
-    ]
+mark-kept l i p e = set-cases (λ (b : Bool). b ≡ true) l i p true false (λ s. refl) e
 
 -- ---- of one queue
 

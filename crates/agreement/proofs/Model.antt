@@ -14,6 +14,7 @@ use Rattle.semaphore.specs.Record.{slotFrom}
 use Rattle.tables.specs.declared.Head.{Head}
 use Rattle.tables.specs.Layout.{slotPlace, taskAt, headOf, slotWith, recordAt, modelOf}
 use Rattle.tables.specs.Sizes.{Bounded}
+use Rattle.tables.proofs.LoadStore.{queue-places}
 use Rattle.lookup.proofs.Model.{task-read, slot-read}
 use Rattle.agreement.proofs.Queues.{Tested}
 use Rattle.agreement.proofs.Slots.{SlotTested}
@@ -23,12 +24,8 @@ abbrev pub queueIn : List ℕ → ℕ → List ℕ
 queueIn bs i = take (recordAt bs i .waiters) (recordAt bs i .queue)
 
 module _ (bs : List ℕ) (b : Bounded bs) (i : ℕ) (h : i < wordAt bs 1) where
-  places : length (recordAt bs i .queue) ≡ 32
-  unfolding recordAt
-  places = length-tabulate 32 (λ k. wordAt bs (slotPlace i + 8 + k))
-
   pub queue-length : length (queueIn bs i) ≡ recordAt bs i .waiters
-  queue-length = length-take-le (recordAt bs i .waiters) (recordAt bs i .queue) (omega (arith, places, b .queues i h))
+  queue-length = length-take-le (recordAt bs i .waiters) (recordAt bs i .queue) (omega (arith, queue-places bs i, b .queues i h))
 
   pub slot-with : (s : Head) → s ≡ headOf (recordAt bs i) → slotOf (modelOf bs) (suc i) ≡ slotWith s (queueIn bs i)
   slot-with s e = slot-read bs i h ∙ ap (λ (s : Head). slotWith s (queueIn bs i)) (sym e)
