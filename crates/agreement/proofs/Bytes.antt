@@ -22,7 +22,7 @@ use Rattle.tables.specs.Layout.{taskPlace, slotPlace, taskAt, recordAt, modelOf
 use Rattle.tables.specs.Sizes.{Bounded}
 use Rattle.tables.proofs.LayoutRead.{task-below, record-below}
 use Rattle.lookup.proofs.Model.{length-tasks, length-slots, task-read, slot-read}
-use Rattle.agreement.specs.Tests.{slotAgrees, taskAgrees, seenWith, seenBelow, Marked, slotsAgree, tasksAgree}
+use Rattle.agreement.specs.Tests.{slotAgrees, taskAgrees, seenWith, seenBelow, SlotsTested, slotsAgree, tasksAgree}
 use Rattle.agreement.specs.Bytes.{agreesBytes}
 use Rattle.agreement.proofs.Passes.{Narrow, agrees-passes}
 
@@ -32,34 +32,35 @@ module _ (bs : List ℕ) where
   abbrev pub slotPasses : ℕ → Bool
   slotPasses i = slotAgrees (modelOf bs) (seenBelow (modelOf bs) i) (suc i) (slotOf (modelOf bs) (suc i))
 
-  abbrev pub SlotsTested : Bool → List Bool → Type 0
-  SlotsTested r seen = Marked (slotsAgree (modelOf bs)) (seenBelow (modelOf bs) (wordAt bs 1)) r seen
-
   -- what the test of slot i tells, with the marks of those before it
-  pub slot-passes : (i : ℕ) (seen : List Bool) → seen ≡ seenBelow (modelOf bs) i → slotAgrees (modelOf bs) seen (suc i) (slotOf (modelOf bs) (suc i)) ≡ slotPasses i
+  pub slot-passes : (i : ℕ) (seen : List Bool) → seen ≡ seenBelow (modelOf bs) i
+      → slotAgrees (modelOf bs) seen (suc i) (slotOf (modelOf bs) (suc i)) ≡ slotPasses i
   slot-passes i seen e = ap (λ (seen : List Bool). slotAgrees (modelOf bs) seen (suc i) (slotOf (modelOf bs) (suc i))) e
 
-  pub slot-marks : (i : ℕ) (seen after : List Bool) → seen ≡ seenBelow (modelOf bs) i → after ≡ seenWith seen (slotOf (modelOf bs) (suc i)) → after ≡ seenBelow (modelOf bs) (i + 1)
+  pub slot-marks : (i : ℕ) (seen after : List Bool) → seen ≡ seenBelow (modelOf bs) i
+      → after ≡ seenWith seen (slotOf (modelOf bs) (suc i)) → after ≡ seenBelow (modelOf bs) (i + 1)
   unfolding seenBelow
   slot-marks i seen after e f = f ∙ ap (λ (seen : List Bool). seenWith seen (slotOf (modelOf bs) (suc i))) e ∙ ap (seenBelow (modelOf bs)) (sym (add-one i))
 
-  pub slots-not : (i : ℕ) (after : List Bool) → i < wordAt bs 1 → slotPasses i ≡ false → SlotsTested false after
+  pub slots-not : (i : ℕ) (after : List Bool) → i < wordAt bs 1 → slotPasses i ≡ false → SlotsTested (modelOf bs) false after
   unfolding slotsAgree
   slots-not i after h f = record { answer = sym (all-not _ slotPasses i (omega (arith, length-slots bs)) f); marks = λ y. never y refl }
 
-  pub slots-all : (i : ℕ) (seen : List Bool) → i ≡ wordAt bs 1 → all i slotPasses ≡ true → seen ≡ seenBelow (modelOf bs) i → SlotsTested true seen
+  pub slots-all : (i : ℕ) (seen : List Bool) → i ≡ wordAt bs 1 → all i slotPasses ≡ true → seen ≡ seenBelow (modelOf bs) i → SlotsTested (modelOf bs) true seen
   unfolding slotsAgree
   slots-all i seen e f m =
-      record { answer = sym (ap (λ (n : ℕ). all n slotPasses) (length-slots bs ∙ sym e) ∙ f); marks = λ y. m ∙ ap (seenBelow (modelOf bs)) e }
+      record {
+        answer = sym (ap (λ (n : ℕ). all n slotPasses) (length-slots bs ∙ sym e) ∙ f);
+        marks = λ y. m ∙ ap (seenBelow (modelOf bs)) (e ∙ sym (length-slots bs));
+      }
 
   abbrev pub taskPasses : List Bool → ℕ → Bool
   taskPasses seen i = taskAgrees (getD seen i false) (taskOf (modelOf bs) (suc i))
 
-  pub tasks-tested : (seen : List Bool) → seen ≡ seenBelow (modelOf bs) (wordAt bs 1) → all (wordAt bs 0) (taskPasses seen) ≡ tasksAgree (modelOf bs)
+  pub tasks-tested : (seen : List Bool) → seen ≡ seenBelow (modelOf bs) (length (modelOf bs .slots))
+      → all (wordAt bs 0) (taskPasses seen) ≡ tasksAgree (modelOf bs)
   unfolding tasksAgree
-  tasks-tested seen e =
-      let marks : seen ≡ seenBelow (modelOf bs) (length (modelOf bs .slots)) = e ∙ ap (seenBelow (modelOf bs)) (sym (length-slots bs)) in
-      ap₂ (λ (n : ℕ) (seen : List Bool). all n (taskPasses seen)) (sym (length-tasks bs)) marks
+  tasks-tested seen e = ap₂ (λ (n : ℕ) (seen : List Bool). all n (taskPasses seen)) (sym (length-tasks bs)) e
 
 -- ---- the whole
 

@@ -16,8 +16,7 @@ use Rattle.tables.specs.Layout.{slotPlace, taskAt, headOf, slotWith, recordAt, 
 use Rattle.tables.specs.Sizes.{Bounded}
 use Rattle.tables.proofs.LoadStore.{queue-places}
 use Rattle.lookup.proofs.Model.{task-read, slot-read}
-use Rattle.agreement.proofs.Queues.{Tested}
-use Rattle.agreement.proofs.Slots.{SlotTested}
+use Rattle.agreement.specs.Tests.{QueueTested, SlotTested}
 
 -- the waiters of slot i, counted from 0
 abbrev pub queueIn : List ℕ → ℕ → List ℕ
@@ -33,16 +32,19 @@ module _ (bs : List ℕ) (b : Bounded bs) (i : ℕ) (h : i < wordAt bs 1) where
   pub entry-read : (k q : ℕ) → k < recordAt bs i .waiters → q ≡ getD (recordAt bs i .queue) k 0 → q ≡ getD (queueIn bs i) k 0
   entry-read k q l e = e ∙ sym (getD-take (recordAt bs i .waiters) (recordAt bs i .queue) k 0 l)
 
-  -- what is told of the head and the waiters is told of the slot
-  pub queue-told : (s : Head) → s ≡ headOf (recordAt bs i) → (first : List Bool) (id : ℕ) (r : Bool) (seen : List Bool) → Tested (modelOf bs) first id (slotWith s (queueIn bs i)) r seen → Tested (modelOf bs) first id (slotOf (modelOf bs) (suc i)) r seen
-  queue-told s e first id r seen = subst (λ (z : Slot). Tested (modelOf bs) first id z r seen) (sym (slot-with s e))
+  -- what is told of the head and the waiters is told of the slot, and back
+  module _ (s : Head) (e : s ≡ headOf (recordAt bs i)) (first : List Bool) (r : Bool) (seen : List Bool) where
+    pub queue-told : (id : ℕ) → QueueTested (modelOf bs) first id (slotWith s (queueIn bs i)) r seen
+        → QueueTested (modelOf bs) first id (slotOf (modelOf bs) (suc i)) r seen
+    queue-told id = subst (λ (z : Slot). QueueTested (modelOf bs) first id z r seen) (sym (slot-with s e))
 
-  pub slot-told : (s : Head) → s ≡ headOf (recordAt bs i) → (first : List Bool) (r : Bool) (seen : List Bool) → SlotTested (modelOf bs) first (suc i) (slotWith s (queueIn bs i)) r seen → SlotTested (modelOf bs) first (suc i) (slotOf (modelOf bs) (suc i)) r seen
-  slot-told s e first r seen = subst (λ (z : Slot). SlotTested (modelOf bs) first (suc i) z r seen) (sym (slot-with s e))
+    pub told-queue : (id : ℕ) → QueueTested (modelOf bs) first id (slotOf (modelOf bs) (suc i)) r seen
+        → QueueTested (modelOf bs) first id (slotWith s (queueIn bs i)) r seen
+    told-queue id = subst (λ (z : Slot). QueueTested (modelOf bs) first id z r seen) (slot-with s e)
 
-  -- and back, for what a callee told of the slot
-  pub told-queue : (s : Head) → s ≡ headOf (recordAt bs i) → (first : List Bool) (id : ℕ) (r : Bool) (seen : List Bool) → Tested (modelOf bs) first id (slotOf (modelOf bs) (suc i)) r seen → Tested (modelOf bs) first id (slotWith s (queueIn bs i)) r seen
-  told-queue s e first id r seen = subst (λ (z : Slot). Tested (modelOf bs) first id z r seen) (slot-with s e)
+    pub slot-told : SlotTested (modelOf bs) first (suc i) (slotWith s (queueIn bs i)) r seen
+        → SlotTested (modelOf bs) first (suc i) (slotOf (modelOf bs) (suc i)) r seen
+    slot-told = subst (λ (z : Slot). SlotTested (modelOf bs) first (suc i) z r seen) (sym (slot-with s e))
 
 pub task-of : (bs : List ℕ) (q i : ℕ) (v : Task) → 1 ≤ q → q ≤ wordAt bs 0 → i ≡ q - 1 → v ≡ taskAt bs i → v ≡ taskOf (modelOf bs) q
 task-of bs q i v low high e r = let at : i ≡ pred q = omega arith in r ∙ ap (taskAt bs) at ∙ sym (task-read bs (pred q) (omega arith))

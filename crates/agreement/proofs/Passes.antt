@@ -22,7 +22,7 @@ use Rattle.rules.proofs.Invariants.Facts.{nthTask, nthSlot, waitsOn, Unheld, He
 use Rattle.rules.proofs.Invariants.FromTests.{agrees-facts}
 use Rattle.rules.proofs.Invariants.ToTests.{names-of}
 use Rattle.agreement.specs.Tests.{seenAt, urgencyBefore, seenBelow, entryAgrees, queueAgrees, classAgrees, headAgrees, slotAgrees, taskAgrees, slotsAgree, tasksAgree}
-use Rattle.agreement.proofs.Marks.{Place, Stands, length-below, seen-made, seen-from, below-made, below-from}
+use Rattle.agreement.proofs.Marks.{queueOf, entryOf, Place, Stands, length-below, seen-made, seen-from, below-made, below-from}
 use Rattle.agreement.proofs.Entries.{EntryFits, entry-fits, fits-entry, occurs-apart, occurs-once, occurs-twice, occurs-found}
 
 -- the numbers that have no other limit than their 32 bits
@@ -32,10 +32,6 @@ pub record Narrow (t : Tables) : Type 0 where
   pub name : (n : ℕ) → slotOf t n .name ≤ maxNumber
   pub count : (n : ℕ) → slotOf t n .count ≤ maxNumber
   pub nest : (n : ℕ) → slotOf t n .nest ≤ maxNumber
-
--- the task at place k of the queue of slot j, counted from 0
-abbrev taskAt : Tables → ℕ → ℕ → ℕ
-taskAt t j k = getD (nthSlot t j .queue) k 0
 
 -- a choice between tests that holds
 chosen : (a b c : Bool) → choose a b c ≡ true → a ≡ true → b ≡ true
@@ -134,7 +130,7 @@ module _ (t : Tables) (narrow : Narrow t) (fit : sizesFit t ≡ true) (slots : s
       let s = below-from t (length (t .slots)) i m in
       let j : ℕ = s .slot in
       let k : ℕ = s .at .place in
-      let q : ℕ = getD (nthSlot t j .queue) k 0 in
+      let q : ℕ = entryOf t j k in
       let place = entry t (sizes-within t fit) (seenBelow t j) (length-below t j) (suc j) (nthSlot t j) (slot-test j (s .below)) (s .live) k (s .at .within) in
       let waiter = and-both _ _ (place .waiter) in
       let least : 1 ≤ q = leb-true _ _ (and-both _ _ (waiter .0) .0) in
@@ -145,7 +141,7 @@ module _ (t : Tables) (narrow : Narrow t) (fit : sizesFit t ≡ true) (slots : s
       let one = once t (sizes-within t fit) (seenBelow t j) (length-below t j) (suc j) (nthSlot t j) (slot-test j (s .below)) (s .live) k (s .at .within) in
       both-and (named .0)
       (eq-eqb _ _
-      (subst (λ (n : ℕ). occurs (suc i) (slotOf t n .queue) ≡ 1) (sym (named .1)) (subst (λ (q : ℕ). occurs q (nthSlot t j .queue) ≡ 1) number one)))
+      (subst (λ (n : ℕ). occurs (suc i) (slotOf t n .queue) ≡ 1) (sym (named .1)) (subst (λ (q : ℕ). occurs q (queueOf t j) ≡ 1) number one)))
 
   task-agrees : (i : ℕ) → i < length (t .tasks) → TaskAgrees t (suc i) (nthTask t i)
   unfolding tasksAgree taskAgrees
@@ -163,7 +159,9 @@ module _ (t : Tables) (narrow : Narrow t) (fit : sizesFit t ≡ true) (slots : s
       record {
         sizes = fit;
         task = task-agrees;
-        slot = λ j h. slot-agrees t (sizes-within t fit) (seenBelow t j) (length-below t j) (suc j) (nthSlot t j) (slot-test j h) (narrow .name (suc j)) (narrow .count (suc j)) (narrow .nest (suc j));
+        slot = λ j h.
+            slot-agrees t (sizes-within t fit) (seenBelow t j) (length-below t j) (suc j) (nthSlot t j) (slot-test j h)
+            (narrow .name (suc j)) (narrow .count (suc j)) (narrow .nest (suc j));
       }
 
 -- ---- and the clauses the tests
@@ -179,64 +177,71 @@ module _ (t : Tables) (a : Agrees t) where
   sizes = sizes-within t (a .sizes)
 
   -- a task at a place of a live slot's queue
-  module _ (j : ℕ) (l : isLive (nthSlot t j) ≡ true) (k : ℕ) (b : k < length (nthSlot t j .queue)) where
-    waiter : isWaiter t (idOf (suc j) (nthSlot t j)) (taskAt t j k) ≡ true
+  module _ (j : ℕ) (l : isLive (nthSlot t j) ≡ true) (k : ℕ) (b : k < length (queueOf t j)) where
+    waiter : isWaiter t (idOf (suc j) (nthSlot t j)) (entryOf t j k) ≡ true
     waiter = all-at _ _ (items .slot j (live-within t j l) .whenLive l .waiting) k b
 
-    least : 1 ≤ taskAt t j k
+    least : 1 ≤ entryOf t j k
     least = leb-true _ _ (and-both _ _ (and-both _ _ waiter .0) .0)
 
-    awaited : taskOf t (taskAt t j k) .awaited ≡ idOf (suc j) (nthSlot t j)
+    awaited : taskOf t (entryOf t j k) .awaited ≡ idOf (suc j) (nthSlot t j)
     awaited = eqb-true _ _ (and-both _ _ (and-both _ _ waiter .1) .1)
 
-    most-once : occurs (taskAt t j k) (nthSlot t j .queue) ≤ 1
+    most-once : occurs (entryOf t j k) (queueOf t j) ≤ 1
     most-once =
-        let number : suc (pred (taskAt t j k)) ≡ taskAt t j k = omega (arith, least) in
-        subst (λ (q : ℕ). occurs q (nthSlot t j .queue) ≤ 1) number (omega (arith, facts .linked .counted (pred (taskAt t j k)) j l, bit-most (waitsOn (nthTask t (pred (taskAt t j k))) (idOf (suc j) (nthSlot t j)))))
+        let i : ℕ = pred (entryOf t j k) in
+        let number : suc i ≡ entryOf t j k = omega (arith, least) in
+        subst (λ (q : ℕ). occurs q (queueOf t j) ≤ 1) number
+        (omega (arith, facts .linked .counted i j l, bit-most (waitsOn (nthTask t i) (idOf (suc j) (nthSlot t j)))))
 
-    apart : taskAt t j k ≡ nthSlot t j .owner → ⊥
+    apart : entryOf t j k ≡ nthSlot t j .owner → ⊥
     apart e =
         let fits = facts .slots j .whenLive l in
         ⊎-elim
         (λ (y : isBinary (nthSlot t j .attributes) ≡ true).
         ⊎-elim (λ (u : Unheld (nthSlot t j)). omega (arith, least, u .owner))
         (λ (u : Held (length (t .tasks)) (nthSlot t j)).
-        omega (arith, u .apart, subst (λ (q : ℕ). 1 ≤ occurs q (nthSlot t j .queue)) e (occurs-at (nthSlot t j .queue) k b)))
+        omega (arith, u .apart, subst (λ (q : ℕ). 1 ≤ occurs q (queueOf t j)) e (occurs-at (queueOf t j) k b)))
         (fits .owned y))
         (λ (y : isBinary (nthSlot t j .attributes) ≡ false). omega (arith, least, fits .unowned y .owner))
         (tested (isBinary (nthSlot t j .attributes)))
 
-  module _ (j : ℕ) (l : isLive (nthSlot t j) ≡ true) (k : ℕ) (b : k < length (nthSlot t j .queue)) where
+  module _ (j : ℕ) (l : isLive (nthSlot t j) ≡ true) (k : ℕ) (b : k < length (queueOf t j)) where
     -- a task waits on one semaphore only
-    elsewhere : (n : ℕ) (m : isLive (nthSlot t n) ≡ true) (i : ℕ) (c : i < length (nthSlot t n .queue)) → n < j → taskAt t n i ≡ taskAt t j k → ⊥
+    elsewhere : (n : ℕ) (m : isLive (nthSlot t n) ≡ true) (i : ℕ) (c : i < length (queueOf t n)) → n < j → entryOf t n i ≡ entryOf t j k → ⊥
     elsewhere n m i c h e =
-        let here : taskOf t (taskAt t j k) .awaited ≡ nthSlot t j .generation * 65536 + suc j = awaited j l k b in
-        let there : taskOf t (taskAt t j k) .awaited ≡ nthSlot t n .generation * 65536 + suc n = sym (ap (λ (q : ℕ). taskOf t q .awaited) e) ∙ awaited n m i c in
+        let here : taskOf t (entryOf t j k) .awaited ≡ nthSlot t j .generation * 65536 + suc j = awaited j l k b in
+        let same : taskOf t (entryOf t n i) .awaited ≡ taskOf t (entryOf t j k) .awaited = ap (λ (q : ℕ). taskOf t q .awaited) e in
+        let there : taskOf t (entryOf t j k) .awaited ≡ nthSlot t n .generation * 65536 + suc n = sym same ∙ awaited n m i c in
         omega (arith, sizes .slots, live-within t j l)
 
     -- so nobody has marked it: no slot before this one, and no place before this one
-    fresh : getD (seenAt (seenBelow t j) (nthSlot t j .queue) k) (pred (taskAt t j k)) false ≡ false
+    fresh : getD (seenAt (seenBelow t j) (queueOf t j) k) (pred (entryOf t j k)) false ≡ false
     fresh =
         ⊎-elim
-        (λ (m : getD (seenAt (seenBelow t j) (nthSlot t j .queue) k) (pred (taskAt t j k)) false ≡ true).
-        absurd (⊎-elim before here (seen-from (seenBelow t j) (nthSlot t j .queue) k _ m)))
-        (λ (n : getD (seenAt (seenBelow t j) (nthSlot t j .queue) k) (pred (taskAt t j k)) false ≡ false). n)
-        (tested (getD (seenAt (seenBelow t j) (nthSlot t j .queue) k) (pred (taskAt t j k)) false))
+        (λ (m : getD (seenAt (seenBelow t j) (queueOf t j) k) (pred (entryOf t j k)) false ≡ true).
+        absurd (⊎-elim before here (seen-from (seenBelow t j) (queueOf t j) k _ m)))
+        (λ (n : getD (seenAt (seenBelow t j) (queueOf t j) k) (pred (entryOf t j k)) false ≡ false). n)
+        (tested (getD (seenAt (seenBelow t j) (queueOf t j) k) (pred (entryOf t j k)) false))
       where
-        here : Place (nthSlot t j .queue) k (pred (taskAt t j k)) → ⊥
+        here : Place (queueOf t j) k (pred (entryOf t j k)) → ⊥
         here p =
-            let same : taskAt t j (p .place) ≡ taskAt t j k = omega (arith, p .is, least j l k b, least j l (p .place) (omega (arith, p .within))) in
-            omega (arith, occurs-twice (nthSlot t j .queue) (p .place) k (p .within) b same, most-once j l k b)
+            let same : entryOf t j (p .place) ≡ entryOf t j k = omega (arith, p .is, least j l k b, least j l (p .place) (omega (arith, p .within))) in
+            omega (arith, occurs-twice (queueOf t j) (p .place) k (p .within) b same, most-once j l k b)
 
-        before : getD (seenBelow t j) (pred (taskAt t j k)) false ≡ true → ⊥
+        before : getD (seenBelow t j) (pred (entryOf t j k)) false ≡ true → ⊥
         before m =
             let s = below-from t j _ m in
-            elsewhere (s .slot) (s .live) (s .at .place) (s .at .within) (s .below) (omega (arith, s .at .is, least j l k b, least (s .slot) (s .live) (s .at .place) (s .at .within)))
+            let there : 1 ≤ entryOf t (s .slot) (s .at .place) = least (s .slot) (s .live) (s .at .place) (s .at .within) in
+            let number : entryOf t (s .slot) (s .at .place) ≡ entryOf t j k = omega (arith, s .at .is, least j l k b) in
+            elsewhere (s .slot) (s .live) (s .at .place) (s .at .within) (s .below) number
 
     entry-agrees : entryAgrees t (seenBelow t j) (idOf (suc j) (nthSlot t j)) (nthSlot t j) k ≡ true
-    entry-agrees = fits-entry t (seenBelow t j) _ (nthSlot t j) k (record { waiter = waiter j l k b; apart = apart j l k b; ordered = ordered k b; fresh = fresh })
+    entry-agrees =
+        fits-entry t (seenBelow t j) _ (nthSlot t j) k
+        (record { waiter = waiter j l k b; apart = apart j l k b; ordered = ordered k b; fresh = fresh })
       where
-        ordered : (k : ℕ) → k < length (nthSlot t j .queue) → byPriority (nthSlot t j .attributes) ≡ true → urgencyBefore t (nthSlot t j .queue) k ≤ urgency t (taskAt t j k)
+        ordered : (k : ℕ) → k < length (queueOf t j) → byPriority (nthSlot t j .attributes) ≡ true → urgencyBefore t (queueOf t j) k ≤ urgency t (entryOf t j k)
         ordered zero b p = omega arith
         ordered (suc k) b p = leb-true _ _ (all-at _ _ (items .slot j (live-within t j l) .whenLive l .ordered p) k (omega arith))
 
@@ -246,12 +251,12 @@ module _ (t : Tables) (a : Agrees t) where
       let numbers = and-both _ _ (items .slot j h .numbers) in
       both-and (numbers .0) (either _ _ _ live (free (and-both _ _ (numbers .1) .0)))
     where
-      live : isLive (nthSlot t j) ≡ true → (headAgrees (length (t .tasks)) (nthSlot t j) and queueAgrees t (seenBelow t j) (idOf (suc j) (nthSlot t j)) (nthSlot t j)) ≡ true
+      live : isLive (nthSlot t j) ≡ true
+          → (headAgrees (length (t .tasks)) (nthSlot t j) and queueAgrees t (seenBelow t j) (idOf (suc j) (nthSlot t j)) (nthSlot t j)) ≡ true
       live l =
           let s = items .slot j h .whenLive l in
-          both-and
-          (both-and (s .named) (both-and (s .attributed) (both-and (either _ _ _ (λ y. owned-with (length (t .tasks)) (nthSlot t j) [] (occurs-none _) (s .owned y)) (s .unowned)) (s .atZero))))
-          (all-of _ _ (entry-agrees j l))
+          let class = either _ _ _ (λ y. owned-with (length (t .tasks)) (nthSlot t j) [] (occurs-none _) (s .owned y)) (s .unowned) in
+          both-and (both-and (s .named) (both-and (s .attributed) (both-and class (s .atZero)))) (all-of _ _ (entry-agrees j l))
 
       free : leb (nthSlot t j .live) 1 ≡ true → isLive (nthSlot t j) ≡ false → (eqb (nthSlot t j .live) 0 and isClear (nthSlot t j)) ≡ true
       free most l =
@@ -273,10 +278,11 @@ module _ (t : Tables) (a : Agrees t) where
       marked w =
           let n = facts .linked .named i w in
           let here : waitsOn (nthTask t i) (idOf (suc (n .place)) (nthSlot t (n .place))) ≡ true = both-and w (eq-eqb _ _ (n .is)) in
-          let found = occurs-found (suc i) (nthSlot t (n .place) .queue) (omega (arith, facts .linked .counted i (n .place) (n .live), bit-yes _ here)) in
-          let number : pred (taskAt t (n .place) (found .place)) ≡ i = ap pred (found .is) in
+          let found = occurs-found (suc i) (queueOf t (n .place)) (omega (arith, facts .linked .counted i (n .place) (n .live), bit-yes _ here)) in
+          let number : pred (entryOf t (n .place) (found .place)) ≡ i = ap pred (found .is) in
           subst (λ (p : ℕ). getD (seenBelow t (length (t .slots))) p false ≡ true) number
-          (below-made t (length (t .slots)) (n .place) (found .place) (live-within t (n .place) (n .live)) (n .live) (found .within) (omega (arith, sizes .tasks)))
+          (below-made t (length (t .slots)) (n .place) (found .place) (live-within t (n .place) (n .live)) (n .live) (found .within)
+          (omega (arith, sizes .tasks)))
 
 -- ---- the whole
 

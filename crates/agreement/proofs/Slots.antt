@@ -11,38 +11,34 @@ use Rattle.laws.proofs.Choose.{never, if-yes, if-no, and-both}
 use Rattle.rules.specs.Numbers.{maxGeneration}
 use Rattle.rules.specs.Machine.{Slot, Tables, isLive, idOf}
 use Rattle.rules.specs.Agreement.{isClear}
-use Rattle.agreement.specs.Tests.{queueAgrees, headAgrees, slotAgrees, seenWith, Marked}
-use Rattle.agreement.proofs.Queues.{Tested}
+use Rattle.agreement.specs.Tests.{queueAgrees, headAgrees, slotAgrees, seenWith, QueueTested, SlotTested}
 
 module _ (t : Tables) (first : List Bool) (n : ℕ) (s : Slot) where
-  -- what a slot's test answers and leaves
-  abbrev pub SlotTested : Bool → List Bool → Type 0
-  SlotTested r seen = Marked (slotAgrees t first n s) (seenWith first s) r seen
-
-  refused : (after : List Bool) → slotAgrees t first n s ≡ false → SlotTested false after
+  refused : (after : List Bool) → slotAgrees t first n s ≡ false → SlotTested t first n s false after
   refused after e = record { answer = sym e; marks = λ y. never y refl }
 
-  pub too-late : (after : List Bool) → maxGeneration < s .generation → SlotTested false after
+  pub too-late : (after : List Bool) → maxGeneration < s .generation → SlotTested t first n s false after
   unfolding slotAgrees
   too-late after h = refused after (if-no _ _ (lt-leb _ _ h))
 
   module _ (h : s .generation ≤ maxGeneration) where
-    pub neither : (after : List Bool) → (s .live ≡ 0 → ⊥) → (s .live ≡ 1 → ⊥) → SlotTested false after
+    pub neither : (after : List Bool) → (s .live ≡ 0 → ⊥) → (s .live ≡ 1 → ⊥) → SlotTested t first n s false after
     unfolding slotAgrees
     neither after z o = refused after (if-yes _ _ (le-leb _ _ h) ∙ if-no _ _ (ne-eqb _ _ o) ∙ if-no _ _ (ne-eqb _ _ z))
 
-    pub free : (r : Bool) → s .live ≡ 0 → r ≡ isClear s → SlotTested r first
+    pub free : (r : Bool) → s .live ≡ 0 → r ≡ isClear s → SlotTested t first n s r first
     unfolding slotAgrees seenWith
     free r z e =
         let other : isLive s ≡ false = ne-eqb _ _ (λ (o : s .live ≡ 1). omega arith) in
         record { answer = e ∙ sym (if-yes _ _ (le-leb _ _ h) ∙ if-no _ _ other ∙ if-yes _ _ (eq-eqb _ _ z)); marks = λ y. sym (if-no _ _ other) }
 
     module _ (l : s .live ≡ 1) where
-      pub wrong-head : (after : List Bool) → headAgrees (length (t .tasks)) s ≡ false → SlotTested false after
+      pub wrong-head : (after : List Bool) → headAgrees (length (t .tasks)) s ≡ false → SlotTested t first n s false after
       unfolding slotAgrees
       wrong-head after f = refused after (if-yes _ _ (le-leb _ _ h) ∙ if-yes _ _ (eq-eqb _ _ l) ∙ if-no _ _ f)
 
-      pub live : (id : ℕ) (r : Bool) (seen : List Bool) → headAgrees (length (t .tasks)) s ≡ true → id ≡ idOf n s → Tested t first id s r seen → SlotTested r seen
+      pub live : (id : ℕ) (r : Bool) (seen : List Bool) → headAgrees (length (t .tasks)) s ≡ true → id ≡ idOf n s
+          → QueueTested t first id s r seen → SlotTested t first n s r seen
       unfolding slotAgrees seenWith
       live id r seen f e q =
           record {

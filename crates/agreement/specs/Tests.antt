@@ -14,6 +14,11 @@ use Rattle.rules.specs.Machine.{Slot, Tables, taskOf, slotOf, waits, isLive, id
 use Rattle.rules.specs.Semaphore.{requeued}
 use Rattle.rules.specs.Agreement.{isEnding, isAtRest, isWaiter, isNamedRight, isZeroWhereQueued, isOwnedRight, isUnowned, isClear}
 
+-- what a pass answers and leaves: the marks are told where the test holds
+pub record Marked (agrees : Bool) (after : List Bool) (r : Bool) (seen : List Bool) : Type 0 where
+  pub answer : r ≡ agrees
+  pub marks : r ≡ true → seen ≡ after
+
 -- ---- a queue
 
 -- the marks with those of the tasks at the first k places
@@ -43,6 +48,9 @@ entryAgrees t seen id s k =
 unfoldable pub queueAgrees : Tables → List Bool → ℕ → Slot → Bool
 queueAgrees t seen id s = all (length (s .queue)) (entryAgrees t seen id s)
 
+abbrev pub QueueTested : Tables → List Bool → ℕ → Slot → Bool → List Bool → Type 0
+QueueTested t seen id s r after = Marked (queueAgrees t seen id s) (seenAt seen (s .queue) (length (s .queue))) r after
+
 -- ---- a slot
 
 -- count, owner and nest by the class; that its owner is not in its queue is tested with the queue
@@ -63,10 +71,8 @@ slotAgrees t seen n s =
 unfoldable pub seenWith : List Bool → Slot → List Bool
 seenWith seen s = choose (isLive s) (seenAt seen (s .queue) (length (s .queue))) seen
 
--- what a pass answers and leaves
-pub record Marked (agrees : Bool) (after : List Bool) (r : Bool) (seen : List Bool) : Type 0 where
-  pub answer : r ≡ agrees
-  pub marks : r ≡ true → seen ≡ after
+abbrev pub SlotTested : Tables → List Bool → ℕ → Slot → Bool → List Bool → Type 0
+SlotTested t seen n s r after = Marked (slotAgrees t seen n s) (seenWith seen s) r after
 
 -- ---- a task, and whether it is marked
 
@@ -82,6 +88,9 @@ seenBelow t (suc i) = seenWith (seenBelow t i) (slotOf t (suc i))
 
 unfoldable pub slotsAgree : Tables → Bool
 slotsAgree t = all (length (t .slots)) (λ i. slotAgrees t (seenBelow t i) (suc i) (slotOf t (suc i)))
+
+abbrev pub SlotsTested : Tables → Bool → List Bool → Type 0
+SlotsTested t r after = Marked (slotsAgree t) (seenBelow t (length (t .slots))) r after
 
 unfoldable pub tasksAgree : Tables → Bool
 tasksAgree t = all (length (t .tasks)) (λ i. taskAgrees (getD (seenBelow t (length (t .slots))) i false) (taskOf t (suc i)))

@@ -12,7 +12,7 @@ ghost use Rattle.rules.specs.Machine.{slotOf};
 ghost use Rattle.rules.specs.Agreement.{countsFit, isEnding, isAtRest, isZeroWhereQueued, isOwnedRight, isUnowned, isClear};
 ghost use Rattle.tables.specs.Layout.{headOf, slotWith, recordAt, modelOf};
 ghost use Rattle.tables.specs.Sizes.{Bounded};
-ghost use Rattle.agreement.specs.Tests.{isApart, isInTurn, queueAgrees, headAgrees, classAgrees, slotAgrees, seenAt, seenWith, Marked, taskAgrees, seenBelow, slotsAgree, tasksAgree};
+ghost use Rattle.agreement.specs.Tests.{isApart, isInTurn, QueueTested, classAgrees, headAgrees, SlotTested, taskAgrees, seenBelow, SlotsTested, tasksAgree};
 ghost use Rattle.agreement.specs.Bytes.{agreesBytes};
 
 // ---- a slot
@@ -150,7 +150,7 @@ fn is_in_turn(id: u32, attributes: u32, before: u32, v: Task) -> bool
 // The queue of slot i. Each of its tasks is marked, and none twice: a task waits on one semaphore only.
 fn is_queue_agreeing(m: &[u8], i: usize, id: u32, s: Head, seen: &mut [bool; 32]) -> bool
     requires { ⌜ Bounded (now m) × (i < wordAt (now m) 1) × (s ≡ headOf (recordAt (now m) i)) ⌝ }
-    ensures { λ r. ⌜ Marked (queueAgrees (modelOf (now (m .entry))) (now (seen .entry)) id (slotOf (modelOf (now (m .entry))) (suc i))) (seenAt (now (seen .entry)) (slotOf (modelOf (now (m .entry))) (suc i) .queue) (length (slotOf (modelOf (now (m .entry))) (suc i) .queue))) r (now (seen .exit)) ⌝ }
+    ensures { λ r. ⌜ QueueTested (modelOf (now (m .entry))) (now (seen .entry)) id (slotOf (modelOf (now (m .entry))) (suc i)) r (now (seen .exit)) ⌝ }
 {
     let tasks = tables::task_count(m);
     let waiters = s.waiters as usize;
@@ -179,7 +179,7 @@ fn is_queue_agreeing(m: &[u8], i: usize, id: u32, s: Head, seen: &mut [bool; 32]
 // Slot i, counted from 0.
 fn is_slot_agreeing(m: &[u8], i: usize, seen: &mut [bool; 32]) -> bool
     requires { ⌜ Bounded (now m) × (i < wordAt (now m) 1) ⌝ }
-    ensures { λ r. ⌜ Marked (slotAgrees (modelOf (now (m .entry))) (now (seen .entry)) (suc i) (slotOf (modelOf (now (m .entry))) (suc i))) (seenWith (now (seen .entry)) (slotOf (modelOf (now (m .entry))) (suc i))) r (now (seen .exit)) ⌝ }
+    ensures { λ r. ⌜ SlotTested (modelOf (now (m .entry))) (now (seen .entry)) (suc i) (slotOf (modelOf (now (m .entry))) (suc i)) r (now (seen .exit)) ⌝ }
 {
     let s = tables::load_head(m, i);
     if rules::MAX_GENERATION < s.generation {
@@ -200,7 +200,7 @@ fn is_slot_agreeing(m: &[u8], i: usize, seen: &mut [bool; 32]) -> bool
 
 fn are_slots_agreeing(m: &[u8], seen: &mut [bool; 32]) -> bool
     requires { ⌜ Bounded (now m) × (now seen ≡ seenBelow (modelOf (now m)) 0) ⌝ }
-    ensures { λ r. ⌜ Marked (slotsAgree (modelOf (now (m .entry)))) (seenBelow (modelOf (now (m .entry))) (wordAt (now (m .entry)) 1)) r (now (seen .exit)) ⌝ }
+    ensures { λ r. ⌜ SlotsTested (modelOf (now (m .entry))) r (now (seen .exit)) ⌝ }
 {
     let slots = tables::slot_count(m) as usize;
     let mut i = 0;
@@ -260,7 +260,7 @@ fn is_task_agreeing(seen: bool, v: Task) -> bool
 }
 
 fn are_tasks_agreeing(m: &[u8], seen: &[bool; 32]) -> bool
-    requires { ⌜ Bounded (now m) × (now seen ≡ seenBelow (modelOf (now m)) (wordAt (now m) 1)) ⌝ }
+    requires { ⌜ Bounded (now m) × (now seen ≡ seenBelow (modelOf (now m)) (length (modelOf (now m) .slots))) ⌝ }
     ensures { λ r. ⌜ r ≡ tasksAgree (modelOf (now (m .entry))) ⌝ }
 {
     let tasks = tables::task_count(m) as usize;

@@ -2,7 +2,8 @@
 use borrow.Author.Needs.{needs}
 use mathlib.Core.Path.{_≡_, sym, _∙_}
 use mathlib.Core.Bool.{true}
-use Prim.Native.Nat.{_≤_, _-_}
+use mathlib.Core.List.{List}
+use Prim.Native.Nat.{ℕ, _≤_, _-_}
 use native.Mathlib.Omega.{arith}
 use borrow.Author.Tests.{not-true, not-false}
 use Rattle.laws.specs.All.{all}
@@ -19,9 +20,12 @@ Inv-loop m seen₀ slots i₀ seen i = (i ≤ slots) × (all i (slotPasses m) �
 abbrev μ-loop : tie.MeasureT-loop
 μ-loop m seen₀ slots i₀ seen i = slots - i
 
+abbrev bytes : tie.In-loop Inv-loop μ-loop → List ℕ
+bytes c = c .before .before .before .before .args .m .now
+
 -- what the slot's test tells
-passes : (c : tie.After-is-slot-agreeing Inv-loop μ-loop) → c .is-slot-agreeing .result ≡ slotPasses (c .before .before .before .before .before .before .args .m .now) (c .before .before .before .loop .i)
-passes c = c .is-slot-agreeing .ensures .answer ∙ slot-passes (c .before .before .before .before .before .before .args .m .now) _ _ (c .before .before .before .loop .inv .2)
+passes : (c : tie.After-is-slot-agreeing Inv-loop μ-loop) → c .is-slot-agreeing .result ≡ slotPasses (bytes (c .before .before)) (c .before .before .before .loop .i)
+passes c = c .is-slot-agreeing .ensures .answer ∙ slot-passes (bytes (c .before .before)) _ _ (c .before .before .before .loop .inv .2)
 
 slot-count-requires : tie.Need-slot-count-requires Inv-loop μ-loop
 slot-count-requires c κs = search needs
@@ -36,7 +40,9 @@ is-slot-agreeing-requires : tie.Need-is-slot-agreeing-requires Inv-loop μ-loop
 is-slot-agreeing-requires c κs = search needs
 
 returns : tie.Need-returns Inv-loop μ-loop
-returns c = slots-not (c .before .before .before .before .before .before .before .args .m .now) (c .before .before .before .before .loop .i) _ (omega (arith, c .before .before .before .before .before .slot-count .ensures)) (sym (passes (c .before)) ∙ not-true _ (c .if1 .taken))
+returns c =
+    slots-not (bytes (c .before .before .before)) (c .before .before .before .before .loop .i) _
+    (omega (arith, c .before .before .before .before .before .slot-count .ensures)) (sym (passes (c .before)) ∙ not-true _ (c .if1 .taken))
 
 add-i : tie.Need-add-i Inv-loop μ-loop
 add-i c = search needs
@@ -47,10 +53,10 @@ loop-less c = search needs
 loop-again : tie.Need-loop-again Inv-loop μ-loop
 loop-again c =
     let turn = c .before .before .before .before .loop in
-    let passed = not-false _ (c .if1 .left) in (
+    let passed : c .before .is-slot-agreeing .result ≡ true = not-false _ (c .if1 .left) in (
       omega arith,
       all-more (turn .i) _ (turn .inv .1) (sym (passes (c .before)) ∙ passed),
-      slot-marks (c .before .before .before .before .before .before .before .args .m .now) (turn .i) _ _ (turn .inv .2) (c .before .is-slot-agreeing .ensures .marks passed),
+      slot-marks (bytes (c .before .before .before)) (turn .i) _ _ (turn .inv .2) (c .before .is-slot-agreeing .ensures .marks passed),
     )
 
 returns-2 : tie.Need-returns-2 Inv-loop μ-loop

@@ -2,7 +2,7 @@
 use borrow.Author.Needs.{needs}
 use mathlib.Core.Path.{_≡_, ap, sym, _∙_}
 use mathlib.Core.Bool.{true, false}
-use Prim.Native.Nat.{suc, _≤_, _-_}
+use Prim.Native.Nat.{suc, _≤_, _<_, _-_}
 use native.Mathlib.Omega.{arith}
 use lib.ListN.{getD}
 use borrow.Author.Tests.{not-true, not-false}
@@ -21,14 +21,18 @@ Inv-loop m seen tasks i₀ i = (i ≤ tasks) × (all i (taskPasses m seen) ≡ t
 abbrev μ-loop : tie.MeasureT-loop
 μ-loop m seen tasks i₀ i = tasks - i
 
+abbrev start : tie.In-loop Inv-loop μ-loop → tie.Start Inv-loop μ-loop
+start c = c .before .before .before .before
+
 -- what the task's test tells
 passes : (c : tie.After-is-task-agreeing Inv-loop μ-loop)
-    → c .is-task-agreeing .result ≡ taskPasses (c .before .before .before .before .before .before .before .args .m .now) (c .before .before .before .before .before .before .before .args .seen .now) (c .before .before .before .before .loop .i)
+    → c .is-task-agreeing .result ≡ taskPasses (start (c .before .before .before) .args .m .now) (start (c .before .before .before) .args .seen .now) (c .before .before .before .before .loop .i)
 passes c =
-    let o = c .before .before .before .before .before .before .before .args in
+    let o = start (c .before .before .before) .args in
     let i = c .before .before .before .before .loop .i in
+    let most : suc i ≤ wordAt (o .m .now) 0 = omega (arith, c .before .before .before .before .before .task-count .ensures) in
     c .is-task-agreeing .ensures
-    ∙ ap (taskAgrees (getD (o .seen .now) i false)) (task-of (o .m .now) (suc i) i _ (omega arith) (omega (arith, c .before .before .before .before .before .task-count .ensures)) (omega arith) (c .before .before .load-task .ensures))
+    ∙ ap (taskAgrees (getD (o .seen .now) i false)) (task-of (o .m .now) (suc i) i _ (omega arith) most (omega arith) (c .before .before .load-task .ensures))
 
 task-count-requires : tie.Need-task-count-requires Inv-loop μ-loop
 task-count-requires c κs = search needs
@@ -50,9 +54,11 @@ is-task-agreeing-requires c κs = search needs
 
 returns : tie.Need-returns Inv-loop μ-loop
 returns c =
-    let start = c .before .before .before .before .before .before .before .before in
-    let o = start .args in
-    sym (sym (tasks-tested (o .m .now) (o .seen .now) (start .pre .1)) ∙ all-not (wordAt (o .m .now) 0) _ (c .before .before .before .before .before .loop .i) (omega (arith, c .before .before .before .before .before .before .task-count .ensures)) (sym (passes (c .before)) ∙ not-true _ (c .if1 .taken)))
+    let first = start (c .before .before .before .before) in
+    let i = c .before .before .before .before .before .loop .i in
+    let within : i < wordAt (first .args .m .now) 0 = omega (arith, c .before .before .before .before .before .before .task-count .ensures) in
+    let failed = all-not (wordAt (first .args .m .now) 0) _ i within (sym (passes (c .before)) ∙ not-true _ (c .if1 .taken)) in
+    sym (sym (tasks-tested (first .args .m .now) (first .args .seen .now) (first .pre .1)) ∙ failed)
 
 add-i : tie.Need-add-i Inv-loop μ-loop
 add-i c = search needs

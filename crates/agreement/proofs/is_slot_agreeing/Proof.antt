@@ -1,64 +1,72 @@
 -- `agreement::is_slot_agreeing` meets its contract: each return is a case of the slot's test.
 use borrow.Author.Needs.{needs}
 use mathlib.Core.Path.{_≡_, ap, sym, _∙_}
+use mathlib.Core.Bool.{Bool}
+use mathlib.Core.List.{List}
 use Prim.Native.Nat.{ℕ, suc}
 use native.Mathlib.Omega.{arith}
 use lib.ListN.{length}
 use borrow.Author.Tests.{not-true, not-false}
+use Rattle.rules.specs.Machine.{Slot, Tables, slotOf}
 use Rattle.tables.specs.declared.Head.{Head}
 use Rattle.tables.specs.Layout.{slotWith, modelOf}
 use Rattle.lookup.proofs.Model.{length-tasks}
-use Rattle.agreement.specs.Tests.{headAgrees}
+use Rattle.agreement.specs.Tests.{headAgrees, SlotTested}
 use Rattle.agreement.proofs.Slots.{too-late, neither, free, wrong-head, live}
 use Rattle.agreement.proofs.Model.{queueIn, queue-length, slot-told, told-queue}
 use Rattle.agreement.proofs.is_slot_agreeing.Statement.{statement}
 use Rattle.agreement.proofs.is_slot_agreeing.Tie as tie
 
+abbrev start : tie.After-load-head → tie.Start
+start c = c .before .before
+
+abbrev model : tie.After-load-head → Tables
+model c = modelOf (start c .args .m .now)
+
+abbrev slot : tie.After-load-head → Slot
+slot c = slotWith (c .load-head .result) (queueIn (start c .args .m .now) (start c .args .i))
+
 -- the queue is as long as the head says
-waiters : (c : tie.After-load-head) → length (queueIn (c .before .before .args .m .now) (c .before .before .args .i)) ≡ c .load-head .result .waiters
+waiters : (c : tie.After-load-head) → length (slot c .queue) ≡ c .load-head .result .waiters
 waiters c =
-    let start = c .before .before in
-    queue-length (start .args .m .now) (start .pre .0) (start .args .i) (start .pre .1) ∙ sym (ap (λ (s : Head). s .waiters) (c .load-head .ensures))
+    let o = start c .args in
+    queue-length (o .m .now) (start c .pre .0) (o .i) (start c .pre .1) ∙ sym (ap (λ (s : Head). s .waiters) (c .load-head .ensures))
+
+-- what is told of the head and the waiters is told of the slot
+told : (c : tie.After-load-head) (r : Bool) (after : List Bool)
+    → SlotTested (model c) (start c .args .seen .now) (suc (start c .args .i)) (slot c) r after
+    → SlotTested (model c) (start c .args .seen .now) (suc (start c .args .i)) (slotOf (model c) (suc (start c .args .i))) r after
+told c r after =
+    let o = start c .args in
+    slot-told (o .m .now) (start c .pre .0) (o .i) (start c .pre .1) (c .load-head .result) (c .load-head .ensures) (o .seen .now) r after
 
 -- the head's test with the model's N
 headed : (c : tie.After-is-head-agreeing)
     → c .is-head-agreeing .result
-    ≡ headAgrees (length (modelOf (c .before .before .before .before .before .before .before .before .before .before .args .m .now) .tasks)) (slotWith (c .before .before .before .before .before .before .before .before .load-head .result) (queueIn (c .before .before .before .before .before .before .before .before .before .before .args .m .now) (c .before .before .before .before .before .before .before .before .before .before .args .i)))
+    ≡ headAgrees (length (model (c .before .before .before .before .before .before .before .before) .tasks)) (slot (c .before .before .before .before .before .before .before .before))
 headed c =
-    let o = c .before .before .before .before .before .before .before .before .before .before .args in
-    let queue = queueIn (o .m .now) (o .i) in
-    c .is-head-agreeing .ensures queue (waiters (c .before .before .before .before .before .before .before .before))
-    ∙ ap (λ (N : ℕ). headAgrees N (slotWith (c .before .before .before .before .before .before .before .before .load-head .result) queue)) (c .before .task-count .ensures ∙ sym (length-tasks (o .m .now)))
+    let at = c .before .before .before .before .before .before .before .before in
+    c .is-head-agreeing .ensures (slot at .queue) (waiters at)
+    ∙ ap (λ (N : ℕ). headAgrees N (slot at)) (c .before .task-count .ensures ∙ sym (length-tasks (start at .args .m .now)))
 
 load-head-requires : tie.Need-load-head-requires
 load-head-requires c κs = search needs
 
 returns : tie.Need-returns
-returns c =
-    let start = c .before .before .before .before in
-    let o = start .args in
-    let s = c .before .before .load-head in
-    slot-told (o .m .now) (start .pre .0) (o .i) (start .pre .1) (s .result) (s .ensures) (o .seen .now) _ _
-    (too-late (modelOf (o .m .now)) (o .seen .now) (suc (o .i)) (slotWith (s .result) (queueIn (o .m .now) (o .i))) _ (c .if1 .taken))
+returns c = told (c .before .before) _ _ (too-late _ _ _ _ _ (c .if1 .taken))
 
 is-clear-requires : tie.Need-is-clear-requires
 is-clear-requires c κs = search needs
 
 returns-2 : tie.Need-returns-2
 returns-2 c =
-    let start = c .before .before .before .before .before .before .before in
-    let o = start .args in
-    let s = c .before .before .before .before .before .load-head in
-    slot-told (o .m .now) (start .pre .0) (o .i) (start .pre .1) (s .result) (s .ensures) (o .seen .now) _ _
-    (free (modelOf (o .m .now)) (o .seen .now) (suc (o .i)) (slotWith (s .result) (queueIn (o .m .now) (o .i))) (c .before .before .before .if1 .left) _ (c .before .if2 .taken) (c .is-clear .ensures (queueIn (o .m .now) (o .i)) (waiters (c .before .before .before .before .before))))
+    let at = c .before .before .before .before .before in
+    told at _ _ (free _ _ _ _ (c .before .before .before .if1 .left) _ (c .before .if2 .taken) (c .is-clear .ensures (slot at .queue) (waiters at)))
 
 returns-3 : tie.Need-returns-3
 returns-3 c =
-    let start = c .before .before .before .before .before .before .before .before in
-    let o = start .args in
-    let s = c .before .before .before .before .before .before .load-head in
-    slot-told (o .m .now) (start .pre .0) (o .i) (start .pre .1) (s .result) (s .ensures) (o .seen .now) _ _
-    (neither (modelOf (o .m .now)) (o .seen .now) (suc (o .i)) (slotWith (s .result) (queueIn (o .m .now) (o .i))) (c .before .before .before .before .if1 .left) _ (c .before .before .if2 .left) (c .if3 .taken))
+    told (c .before .before .before .before .before .before) _ _
+    (neither _ _ _ _ (c .before .before .before .before .if1 .left) _ (c .before .before .if2 .left) (c .if3 .taken))
 
 task-count-requires : tie.Need-task-count-requires
 task-count-requires c κs = search needs
@@ -68,11 +76,9 @@ is-head-agreeing-requires c κs = search needs
 
 returns-4 : tie.Need-returns-4
 returns-4 c =
-    let start = c .before .before .before .before .before .before .before .before .before .before .before in
-    let o = start .args in
-    let s = c .before .before .before .before .before .before .before .before .before .load-head in
-    slot-told (o .m .now) (start .pre .0) (o .i) (start .pre .1) (s .result) (s .ensures) (o .seen .now) _ _
-    (wrong-head (modelOf (o .m .now)) (o .seen .now) (suc (o .i)) (slotWith (s .result) (queueIn (o .m .now) (o .i))) (c .before .before .before .before .before .before .before .if1 .left) (c .before .before .before .if3 .left) _ (sym (headed (c .before)) ∙ not-true _ (c .if4 .taken)))
+    let one = c .before .before .before in
+    let within = one .before .before .before .before in
+    told (within .before .before) _ _ (wrong-head _ _ _ _ (within .if1 .left) (one .if3 .left) _ (sym (headed (c .before)) ∙ not-true _ (c .if4 .taken)))
 
 mul-id : tie.Need-mul-id
 mul-id c = search needs
@@ -91,12 +97,14 @@ is-queue-agreeing-requires c κs = search needs
 
 returns-5 : tie.Need-returns-5
 returns-5 c =
-    let start = c .before .before .before .before .before .before .before .before .before .before .before .before .before .before in
-    let o = start .args in
-    let s = c .before .before .before .before .before .before .before .before .before .before .before .before .load-head in
-    slot-told (o .m .now) (start .pre .0) (o .i) (start .pre .1) (s .result) (s .ensures) (o .seen .now) _ _
-    (live (modelOf (o .m .now)) (o .seen .now) (suc (o .i)) (slotWith (s .result) (queueIn (o .m .now) (o .i))) (c .before .before .before .before .before .before .before .before .before .before .if1 .left) (c .before .before .before .before .before .before .if3 .left) _ _ _ (sym (headed (c .before .before .before .before)) ∙ not-false _ (c .before .before .before .if4 .left)) (omega arith)
-    (told-queue (o .m .now) (start .pre .0) (o .i) (start .pre .1) (s .result) (s .ensures) (o .seen .now) _ _ _ (c .is-queue-agreeing .ensures)))
+    let head = c .before .before .before in
+    let one = head .before .before .before in
+    let within = one .before .before .before .before in
+    let at = within .before .before in
+    let o = start at .args in
+    told at _ _
+    (live _ _ _ _ (within .if1 .left) (one .if3 .left) _ _ _ (sym (headed (head .before)) ∙ not-false _ (head .if4 .left)) (omega arith)
+    (told-queue (o .m .now) (start at .pre .0) (o .i) (start at .pre .1) (at .load-head .result) (at .load-head .ensures) (o .seen .now) _ _ _ (c .is-queue-agreeing .ensures)))
 
 pub is-slot-agreeing-spec : {M : Type 1} → statement M
 is-slot-agreeing-spec =

@@ -8,19 +8,23 @@ use Rattle.agreement.proofs.is_unowned.Statement.{statement}
 use Rattle.agreement.proofs.is_unowned.Tie as tie
 
 returns : tie.Need-returns
-returns c qs = search cases
+returns c queue = search cases
 
 returns-2 : tie.Need-returns-2
-returns-2 c qs = search cases
+returns-2 c queue = search cases
 
 is-simple-requires : tie.Need-is-simple-requires
 is-simple-requires c κs = search needs
 
 returns-3 : tie.Need-returns-3
-returns-3 c qs = let simple : isSimple (c .before .before .before .before .before .before .before .args .s .attributes) ≡ true = sym (c .before .before .is-simple .ensures) ∙ c .before .if3 .taken in search cases
+returns-3 c queue =
+    let simple : isSimple (c .before .before .before .before .before .before .before .args .s .attributes) ≡ true = sym (c .before .before .is-simple .ensures) ∙ c .before .if3 .taken in
+    search cases
 
 returns-4 : tie.Need-returns-4
-returns-4 c qs = let simple : isSimple (c .before .before .before .before .before .before .args .s .attributes) ≡ false = sym (c .before .is-simple .ensures) ∙ c .if3 .left in search cases
+returns-4 c queue =
+    let simple : isSimple (c .before .before .before .before .before .before .args .s .attributes) ≡ false = sym (c .before .is-simple .ensures) ∙ c .if3 .left in
+    search cases
 
 pub is-unowned-spec : {M : Type 1} → statement M
 is-unowned-spec = tie.close (tie.spec returns returns-2 is-simple-requires returns-3 returns-4)

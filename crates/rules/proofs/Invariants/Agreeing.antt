@@ -20,8 +20,8 @@ use Rattle.rules.specs.Agreement.{Agrees, agrees, sizesFit, numbersFit, 
 pub agrees-true : (t : Tables) → Agrees t → agrees t ≡ true
 unfolding agrees
 agrees-true t a =
-    both-and (a .sizes) (both-and (a .numbers) (both-and (a .answers) (both-and (a .named) (both-and (a .attributed) (both-and (a .waiters) (both-and (a .queues)
-    (both-and (a .ordered) (both-and (a .atZero) (both-and (a .owned) (both-and (a .unowned) (both-and (a .atRest) (a .clear))))))))))))
+    both-and (a .sizes) (both-and (a .numbers) (both-and (a .answers) (both-and (a .named) (both-and (a .attributed)
+    (both-and (a .waiters) (both-and (a .queues) (both-and (a .ordered) (both-and (a .atZero) (both-and (a .owned) (both-and (a .unowned) (both-and (a .atRest) (a .clear))))))))))))
 
 pub true-agrees : (t : Tables) → agrees t ≡ true → Agrees t
 unfolding agrees
@@ -109,7 +109,8 @@ pub record ItemsAgree (t : Tables) : Type 0 where
   pub slot : (j : ℕ) → j < length (t .slots) → SlotAgrees t (suc j) (slotOf t (suc j))
 
 module _ (t : Tables) where
-  live-at : (p : ℕ → Slot → Bool) → eachLive t p ≡ true → (j : ℕ) → j < length (t .slots) → isLive (slotOf t (suc j)) ≡ true → p (suc j) (slotOf t (suc j)) ≡ true
+  live-at : (p : ℕ → Slot → Bool) → eachLive t p ≡ true
+      → (j : ℕ) → j < length (t .slots) → isLive (slotOf t (suc j)) ≡ true → p (suc j) (slotOf t (suc j)) ≡ true
   live-at p e j h = when-then _ _ (all-at _ _ e j h)
 
   pub agrees-items : Agrees t → ItemsAgree t
@@ -161,7 +162,8 @@ module _ (t : Tables) where
       live : (j : ℕ) → j < length (t .slots) → isLive (slotOf t (suc j)) ≡ true → LiveAgrees t (suc j) (slotOf t (suc j))
       live j h = a .slot j h .whenLive
 
-      each : (p : ℕ → Slot → Bool) → ((j : ℕ) → j < length (t .slots) → isLive (slotOf t (suc j)) ≡ true → p (suc j) (slotOf t (suc j)) ≡ true) → eachLive t p ≡ true
+      each : (p : ℕ → Slot → Bool) → ((j : ℕ) → j < length (t .slots) → isLive (slotOf t (suc j)) ≡ true → p (suc j) (slotOf t (suc j)) ≡ true)
+          → eachLive t p ≡ true
       each p f = all-of _ _ (λ j h. then-when _ _ (f j h))
 
 pub unstarted-agrees : Agrees unstarted

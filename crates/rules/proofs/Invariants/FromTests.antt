@@ -47,7 +47,10 @@ module _ (t : Tables) (a : ItemsAgree t) where
     slot-owned : isLive (nthSlot t j) ≡ true → isBinary (nthSlot t j .attributes) ≡ true → Unheld (nthSlot t j) ⊎ Held (length (t .tasks)) (nthSlot t j)
     slot-owned l b =
         ⊎-elim
-        (λ e. let f = and-both _ _ e in let g = and-both _ _ (f .1) in inl (record { count = eqb-true _ _ (f .0); owner = eqb-true _ _ (g .0); nest = eqb-true _ _ (g .1) }))
+        (λ e.
+        let f = and-both _ _ e in
+        let g = and-both _ _ (f .1) in
+        inl (record { count = eqb-true _ _ (f .0); owner = eqb-true _ _ (g .0); nest = eqb-true _ _ (g .1) }))
         (λ e.
         let f = and-both _ _ e in
         let g = and-both _ _ (f .1) in
@@ -116,7 +119,8 @@ module _ (t : Tables) (a : ItemsAgree t) where
         }
 
   -- a waiting task stands once in the queue that it waits in
-  waiter-once : (i : ℕ) → waits (nthTask t i) ≡ true → (names t (nthTask t i .awaited) ≡ true) × (occurs (suc i) (slotOf t (nthTask t i .awaited % 65536) .queue) ≡ 1)
+  waiter-once : (i : ℕ) → waits (nthTask t i) ≡ true
+      → (names t (nthTask t i .awaited) ≡ true) × (occurs (suc i) (slotOf t (nthTask t i .awaited % 65536) .queue) ≡ 1)
   waiter-once i w =
       let e = and-both _ _ (a .task i (waits-within t i w) .waiter w) in
       (e .0, eqb-true _ _ (e .1))
@@ -132,7 +136,8 @@ module _ (t : Tables) (a : ItemsAgree t) where
       let number : nthTask t i .awaited % 65536 ≡ suc j = omega arith in
       subst (λ (n : ℕ). occurs (suc i) (slotOf t n .queue) ≡ 1) number (waiter-once i (w .0) .1) ∙ sym (bit-yes _ e))
       (λ (e : waitsOn (nthTask t i) (idOf (suc j) (nthSlot t j)) ≡ false).
-      occurs-not (isWaiter t (idOf (suc j) (nthSlot t j))) (suc i) (absent e) (nthSlot t j .queue) (all-at _ _ (live j (live-within t j l) l .waiting)) ∙ sym (bit-no _ e))
+      occurs-not (isWaiter t (idOf (suc j) (nthSlot t j))) (suc i) (absent e) (nthSlot t j .queue)
+      (all-at _ _ (live j (live-within t j l) l .waiting)) ∙ sym (bit-no _ e))
       (tested (waitsOn (nthTask t i) (idOf (suc j) (nthSlot t j))))
     where
       absent : waitsOn (nthTask t i) (idOf (suc j) (nthSlot t j)) ≡ false → isWaiter t (idOf (suc j) (nthSlot t j)) (suc i) ≡ false

@@ -51,7 +51,8 @@ module _ (t : Tables) (f : Facts t) where
   task i h =
       let v = f .tasks i in
       record {
-        numbers = both-and (both-and (le-leb _ _ (f .urgent i h .0)) (le-leb _ _ (f .urgent i h .1))) (both-and (le-leb _ _ (v .awaited)) (le-leb _ _ (v .ticks)));
+        numbers =
+            both-and (both-and (le-leb _ _ (f .urgent i h .0)) (le-leb _ _ (f .urgent i h .1))) (both-and (le-leb _ _ (v .awaited)) (le-leb _ _ (v .ticks)));
         answer = v .answer;
         waiter = once i;
         atRest = λ w. let r = v .atRest w in both-and (eq-eqb _ _ (r .0)) (eq-eqb _ _ (r .1));
@@ -61,7 +62,9 @@ module _ (t : Tables) (f : Facts t) where
   held s =
       ⊎-elim
       (λ u. or-first _ _ (both-and (eq-eqb _ _ (u .count)) (both-and (eq-eqb _ _ (u .owner)) (eq-eqb _ _ (u .nest)))))
-      (λ u. or-second _ _ (both-and (eq-eqb _ _ (u .count)) (both-and (both-and (le-leb _ _ (u .task)) (le-leb _ _ (u .most))) (both-and (eq-eqb _ _ (u .apart)) (le-leb _ _ (u .nest))))))
+      (λ u.
+      or-second _ _
+      (both-and (eq-eqb _ _ (u .count)) (both-and (both-and (le-leb _ _ (u .task)) (le-leb _ _ (u .most))) (both-and (eq-eqb _ _ (u .apart)) (le-leb _ _ (u .nest))))))
 
   live : (j : ℕ) → isLive (nthSlot t j) ≡ true → LiveAgrees t (suc j) (nthSlot t j)
   live j l =
@@ -75,14 +78,18 @@ module _ (t : Tables) (f : Facts t) where
         ordered = λ b. all-of _ _ (λ k h. le-leb _ _ (ascending-at (urgency t) 0 queue (s .ordered b) k h));
         atZero = then-when _ _ (λ q. eq-eqb _ _ (s .atZero (leb-true _ _ q)));
         owned = λ b. held (nthSlot t j) (s .owned b);
-        unowned = λ b. let u = s .unowned b in both-and (eq-eqb _ _ (u .owner)) (both-and (eq-eqb _ _ (u .nest)) (then-when _ _ (λ c. le-leb _ _ (u .simple c))));
+        unowned = λ b.
+            let u = s .unowned b in
+            both-and (eq-eqb _ _ (u .owner)) (both-and (eq-eqb _ _ (u .nest)) (then-when _ _ (λ c. le-leb _ _ (u .simple c))));
       }
 
   slot : (j : ℕ) → SlotAgrees t (suc j) (nthSlot t j)
   slot j =
       let s = f .slots j in
       record {
-        numbers = both-and (le-leb _ _ (s .generation)) (both-and (le-leb _ _ (s .live)) (both-and (le-leb _ _ (s .name)) (both-and (le-leb _ _ (s .count)) (le-leb _ _ (s .nest)))));
+        numbers =
+            both-and (le-leb _ _ (s .generation))
+            (both-and (le-leb _ _ (s .live)) (both-and (le-leb _ _ (s .name)) (both-and (le-leb _ _ (s .count)) (le-leb _ _ (s .nest)))));
         whenLive = live j;
         whenFree = λ l. let c = s .whenFree l in
             both-and (eq-eqb _ _ (c .name)) (both-and (eq-eqb _ _ (c .attributes)) (both-and (eq-eqb _ _ (c .count))
