@@ -17,22 +17,32 @@ fn internal_error() -> Answer
     }
 }
 
-pub fn start(m: &mut [u8], slots: u32, priorities: &[u32]) -> Answer
-    ensures { λ r. ⌜ Replied r (now (m .exit)) (replyTo (now (m .entry)) (Start slots) (now (priorities .entry))) ⌝ }
+// A call as an enum, with the priorities that a start takes beside it.
+pub fn call(m: &mut [u8], c: Call, priorities: &[u32]) -> Answer
+    ensures { λ r. ⌜ Replied r (now (m .exit)) (replyTo (now (m .entry)) c (now (priorities .entry))) ⌝ }
 {
     if !agreement::is_agreeing(m) {
         return internal_error();
     }
-    lifecycle::start(m, slots, priorities)
+    calls::perform(m, c, priorities)
+}
+
+pub fn start(m: &mut [u8], slots: u32, priorities: &[u32]) -> Answer
+    ensures { λ r. ⌜ Replied r (now (m .exit)) (replyTo (now (m .entry)) (Start slots) (now (priorities .entry))) ⌝ }
+{
+    call(m, Call::Start { slots: slots }, priorities)
 }
 
 pub fn create(m: &mut [u8], caller: u32, name: u32, count: u32, attributes: u32) -> Answer
     ensures { λ r. ⌜ Replied r (now (m .exit)) (replyTo (now (m .entry)) (Create caller name count attributes) []) ⌝ }
 {
-    if !agreement::is_agreeing(m) {
-        return internal_error();
-    }
-    lifecycle::create(m, caller, name, count, attributes)
+    let c = Call::Create {
+        caller: caller,
+        name: name,
+        count: count,
+        attributes: attributes,
+    };
+    call(m, c, &[])
 }
 
 pub fn ident(m: &[u8], name: u32) -> Answer
@@ -41,43 +51,60 @@ pub fn ident(m: &[u8], name: u32) -> Answer
     if !agreement::is_agreeing(m) {
         return internal_error();
     }
-    lifecycle::ident(m, name)
+    calls::ident::ident(m, name)
 }
 
 pub fn delete(m: &mut [u8], caller: u32, id: u32) -> Answer
     ensures { λ r. ⌜ Replied r (now (m .exit)) (replyTo (now (m .entry)) (Delete caller id) []) ⌝ }
 {
-    if !agreement::is_agreeing(m) {
-        return internal_error();
-    }
-    lifecycle::delete(m, caller, id)
+    call(
+        m,
+        Call::Delete {
+            caller: caller,
+            id: id,
+        },
+        &[],
+    )
 }
 
 pub fn obtain(m: &mut [u8], caller: u32, id: u32, wait: Wait) -> Answer
     ensures { λ r. ⌜ Replied r (now (m .exit)) (replyTo (now (m .entry)) (Obtain caller id wait) []) ⌝ }
 {
-    if !agreement::is_agreeing(m) {
-        return internal_error();
-    }
-    waiting::obtain(m, caller, id, wait)
+    call(
+        m,
+        Call::Obtain {
+            caller: caller,
+            id: id,
+            wait: wait,
+        },
+        &[],
+    )
 }
 
 pub fn release(m: &mut [u8], caller: u32, id: u32) -> Answer
     ensures { λ r. ⌜ Replied r (now (m .exit)) (replyTo (now (m .entry)) (Release caller id) []) ⌝ }
 {
-    if !agreement::is_agreeing(m) {
-        return internal_error();
-    }
-    waiting::release(m, caller, id)
+    call(
+        m,
+        Call::Release {
+            caller: caller,
+            id: id,
+        },
+        &[],
+    )
 }
 
 pub fn flush(m: &mut [u8], caller: u32, id: u32) -> Answer
     ensures { λ r. ⌜ Replied r (now (m .exit)) (replyTo (now (m .entry)) (Flush caller id) []) ⌝ }
 {
-    if !agreement::is_agreeing(m) {
-        return internal_error();
-    }
-    waiting::flush(m, caller, id)
+    call(
+        m,
+        Call::Flush {
+            caller: caller,
+            id: id,
+        },
+        &[],
+    )
 }
 
 pub fn tick(m: &mut [u8]) -> Answer
@@ -86,7 +113,7 @@ pub fn tick(m: &mut [u8]) -> Answer
     if !agreement::is_agreeing(m) {
         return internal_error();
     }
-    waiting::tick(m)
+    calls::tick::tick(m)
 }
 
 // The latest answer of a task, 100 while it waits: how a woken task learns how its wait ended.
@@ -96,26 +123,5 @@ pub fn task(m: &[u8], q: u32) -> Answer
     if !agreement::is_agreeing(m) {
         return internal_error();
     }
-    lifecycle::task(m, q)
-}
-
-// A call as an enum, with the priorities that a start takes beside it.
-pub fn call(m: &mut [u8], c: Call, priorities: &[u32]) -> Answer
-    ensures { λ r. ⌜ Replied r (now (m .exit)) (replyTo (now (m .entry)) c (now (priorities .entry))) ⌝ }
-{
-    match c {
-        Call::Start { slots } => start(m, slots, priorities),
-        Call::Create {
-            caller,
-            name,
-            count,
-            attributes,
-        } => create(m, caller, name, count, attributes),
-        Call::Ident { name } => ident(m, name),
-        Call::Delete { caller, id } => delete(m, caller, id),
-        Call::Obtain { caller, id, wait } => obtain(m, caller, id, wait),
-        Call::Release { caller, id } => release(m, caller, id),
-        Call::Flush { caller, id } => flush(m, caller, id),
-        Call::Tick => tick(m),
-    }
+    calls::task::task(m, q)
 }

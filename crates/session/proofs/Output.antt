@@ -28,7 +28,7 @@ use Rattle.tables.specs.Layout.{laid}
 use Rattle.tables.specs.Sizes.{Holds}
 use Rattle.tables.proofs.LayoutTest.{isLaid-laid}
 use Rattle.tables.proofs.LayoutRead.{modelOf-laid}
-use Rattle.answers.proofs.Laws.{holds}
+use Rattle.calls.proofs.Agreeing.{agrees-holds}
 use Rattle.agreement.specs.Bytes.{agreesBytes}
 use Rattle.manager.specs.Entry.{Reply, Replied, reply, replyTo}
 use Rattle.line.specs.Line.{fields, isNumber, areNumbers, numbers, requestOf, lineOf}
@@ -86,7 +86,7 @@ too-long bs h = if-no _ _ (if-no _ _ (lt-leb (length bs) 256 h))
 
 module _ (t : Tables) (a : Agrees t) (bs : List ℕ) (e : bs ≡ laid t) (b : Bytes bs) where
   held : Holds t
-  held = holds t a bs e b
+  held = agrees-holds t a
 
   passes : agreesBytes (laid t) ≡ true
   unfolding agreesBytes

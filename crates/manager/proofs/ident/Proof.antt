@@ -1,27 +1,18 @@
 -- `manager::ident` meets its contract: bytes that fail the test are left alone, and others are only read.
 use mathlib.Core.Path.{_≡_, sym, _∙_}
-use mathlib.Core.Bool.{true, false}
-use mathlib.Core.List.{List, []}
-use Prim.Native.Nat.{ℕ}
+use mathlib.Core.Bool.{true}
+use mathlib.Core.List.{[]}
 use denote.Ref.{now}
 use borrow.Author.Needs.{needs}
 use borrow.Author.Tests.{not-true, not-false}
-use Rattle.words.proofs.WordsInBytes.{Bytes}
 use Rattle.rules.specs.declared.Call.the-variants.{Ident}
 use Rattle.rules.specs.Calls.{perform}
-use Rattle.tables.specs.Layout.{modelOf}
 use Rattle.agreement.specs.Bytes.{agreesBytes}
-use Rattle.manager.proofs.Laws.{model-agrees, model-laid, agreeing, replied, left-alone}
+use Rattle.manager.proofs.Tested.{tested, replied, left-alone}
 use Rattle.manager.proofs.ident.Statement.{statement}
 use Rattle.manager.proofs.ident.Tie as tie
 
-abbrev lent : tie.Start → List ℕ
-lent s = now (s .args .m)
-
-bytes : (c : tie.After-shared-slice-known) → Bytes (lent (c .before))
-bytes c k = c .shared-slice-known .given k .fits
-
-passed : (c : tie.After-is-agreeing) → c .is-agreeing .result ≡ true → agreesBytes (lent (c .before .before)) ≡ true
+passed : (c : tie.After-is-agreeing) → c .is-agreeing .result ≡ true → agreesBytes (now (c .before .before .args .m)) ≡ true
 passed c e = sym (c .is-agreeing .ensures) ∙ e
 
 is-agreeing-requires : tie.Need-is-agreeing-requires
@@ -33,21 +24,16 @@ internal-error-requires c κs = search needs
 returns : tie.Need-returns
 returns c =
     let at-test = c .before .before in
-    left-alone _ _ _ _ (sym (at-test .is-agreeing .ensures) ∙ not-true _ (c .before .if1 .taken)) (c .internal-error .ensures)
+    left-alone _ _ _ (sym (at-test .is-agreeing .ensures) ∙ not-true _ (c .before .if1 .taken)) (c .internal-error .ensures)
 
 ident-requires : tie.Need-ident-requires
-ident-requires c κs =
-    agreeing _ (bytes (c .before .before)) (passed (c .before) (not-false _ (c .if1 .left)))
+ident-requires c κs = tested (λ k. c .before .before .shared-slice-known .given k .fits) (passed (c .before) (not-false _ (c .if1 .left)))
 
 returns-2 : tie.Need-returns-2
 unfolding perform
 returns-2 c =
     let at-test = c .before .before in
-    let known = at-test .before in
-    let b = bytes known in
-    let e = passed at-test (not-false _ (c .before .if1 .left)) in
-    replied _ b e (Ident (known .before .args .name)) [] _ _
-    (c .ident .ensures (modelOf (lent (known .before))) (model-agrees _ b e) (model-laid _ b e))
+    replied _ (Ident (at-test .before .before .args .name)) [] (passed at-test (not-false _ (c .before .if1 .left))) (c .ident .ensures)
 
 pub ident-spec : {M : Type 1} → statement M
 ident-spec = tie.close (tie.spec is-agreeing-requires internal-error-requires returns ident-requires returns-2)

@@ -1,0 +1,12 @@
+pub mod Agreeing
+pub mod Held
+pub mod Doing
+pub mod Checks
+pub mod Searching
+pub mod Entering
+pub mod Making
+pub mod Reading
+pub mod Ending
+pub mod Obtaining
+pub mod Releasing
+pub mod Ticking

@@ -1,0 +1,4 @@
+pub mod Agreeing
+pub mod Reply
+pub mod Entered
+pub mod Task

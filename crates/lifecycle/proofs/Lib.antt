@@ -1,4 +1,0 @@
-pub mod Laws
-pub mod Hits
-pub mod Made
-pub mod Ended
