@@ -23,7 +23,8 @@ use Rattle.rules.proofs.Invariants.FromTests.{agrees-facts}
 use Rattle.rules.proofs.Invariants.Agreeing.{agrees-true}
 use Rattle.rules.proofs.Invariants.Room as room
 use Rattle.rules.proofs.Invariants.Kept.{kept}
-use Rattle.tables.specs.Layout.{laid, modelOf, taskRow, slotRow}
+use Rattle.tables.specs.Codec.{taskRow, slotRow}
+use Rattle.tables.specs.Layout.{laid, modelOf}
 use Rattle.tables.specs.Sizes.{Holds}
 use Rattle.tables.specs.Sizes.{Sized}
 use Rattle.tables.proofs.LayoutRead.{length-laid, modelOf-laid}

@@ -7,7 +7,8 @@ use Rattle.rules.specs.Machine.{Tables}
 use Rattle.rules.specs.Agreement.{Agrees}
 use Rattle.rules.specs.Calls.{answered, ticked, tickedSlot, tick}
 use Rattle.tables.specs.Layout.{modelOf}
-use Rattle.changes.specs.Limits.{Limited, TaskQueues}
+use Rattle.tables.specs.Sizes.{Limited}
+use Rattle.changes.specs.Tick.{TaskQueues}
 use Rattle.calls.specs.Agreeing.{Agreeing}
 use Rattle.calls.proofs.Agreeing.{tasks-few, slots-few, queue-few, entry-tasks}
 

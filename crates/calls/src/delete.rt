@@ -33,7 +33,8 @@ pub fn delete(m: &mut [u8], caller: u32, id: u32) -> Done
     if is_owned(s) {
         return Done(rules::RESOURCE_IN_USE, 0);
     }
-    changes::put_slot(m, e.slot, semaphore::free(s.generation));
+    let freed = semaphore::free(s.generation);
+    changes::put_slot(m, e.slot, freed);
     let queue = s.queue;
     changes::wake_all(m, queue, s.waiters as usize, rules::OBJECT_WAS_DELETED);
     Done(0, 0)

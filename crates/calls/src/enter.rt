@@ -16,7 +16,7 @@ fn refused(refusal: u32) -> Entered
     ensures { λ r. ⌜ r .refusal ≡ refusal ⌝ }
 {
     Entered {
-        refusal: refusal,
+        refusal,
         slot: 0,
         semaphore: semaphore::free(0),
     }

@@ -30,17 +30,17 @@ pub fn call(m: &mut [u8], c: Call, priorities: &[u32]) -> Answer
 pub fn start(m: &mut [u8], slots: u32, priorities: &[u32]) -> Answer
     ensures { λ r. ⌜ Replied r (now (m .exit)) (replyTo (now (m .entry)) (Start slots) (now (priorities .entry))) ⌝ }
 {
-    call(m, Call::Start { slots: slots }, priorities)
+    call(m, Call::Start { slots }, priorities)
 }
 
 pub fn create(m: &mut [u8], caller: u32, name: u32, count: u32, attributes: u32) -> Answer
     ensures { λ r. ⌜ Replied r (now (m .exit)) (replyTo (now (m .entry)) (Create caller name count attributes) []) ⌝ }
 {
     let c = Call::Create {
-        caller: caller,
-        name: name,
-        count: count,
-        attributes: attributes,
+        caller,
+        name,
+        count,
+        attributes,
     };
     call(m, c, &[])
 }
@@ -57,54 +57,25 @@ pub fn ident(m: &[u8], name: u32) -> Answer
 pub fn delete(m: &mut [u8], caller: u32, id: u32) -> Answer
     ensures { λ r. ⌜ Replied r (now (m .exit)) (replyTo (now (m .entry)) (Delete caller id) []) ⌝ }
 {
-    call(
-        m,
-        Call::Delete {
-            caller: caller,
-            id: id,
-        },
-        &[],
-    )
+    call(m, Call::Delete { caller, id }, &[])
 }
 
 pub fn obtain(m: &mut [u8], caller: u32, id: u32, wait: Wait) -> Answer
     ensures { λ r. ⌜ Replied r (now (m .exit)) (replyTo (now (m .entry)) (Obtain caller id wait) []) ⌝ }
 {
-    call(
-        m,
-        Call::Obtain {
-            caller: caller,
-            id: id,
-            wait: wait,
-        },
-        &[],
-    )
+    call(m, Call::Obtain { caller, id, wait }, &[])
 }
 
 pub fn release(m: &mut [u8], caller: u32, id: u32) -> Answer
     ensures { λ r. ⌜ Replied r (now (m .exit)) (replyTo (now (m .entry)) (Release caller id) []) ⌝ }
 {
-    call(
-        m,
-        Call::Release {
-            caller: caller,
-            id: id,
-        },
-        &[],
-    )
+    call(m, Call::Release { caller, id }, &[])
 }
 
 pub fn flush(m: &mut [u8], caller: u32, id: u32) -> Answer
     ensures { λ r. ⌜ Replied r (now (m .exit)) (replyTo (now (m .entry)) (Flush caller id) []) ⌝ }
 {
-    call(
-        m,
-        Call::Flush {
-            caller: caller,
-            id: id,
-        },
-        &[],
-    )
+    call(m, Call::Flush { caller, id }, &[])
 }
 
 pub fn tick(m: &mut [u8]) -> Answer

@@ -74,7 +74,7 @@ returns-3 c =
     does 0 0 _
     (delete-done (start e .args .caller) (e .enter .ensures) (e .before .before .task-only .ensures) z (sym (c .before .before .before .before .before .before .before .before .before .before .before .before .is-owned .ensures) ∙ c .before .before .before .before .before .before .before .before .before .before .before .if2 .left))
     _ refl refl
-    (emptied-laid (start e .pre .agrees) f free 7 (put .put-slot .ensures (modelOf (start e .args .m .now)) free (start e .pre .same) (put .before .free .ensures .1) (f .high))
+    (emptied-laid (start e .pre .agrees) f free 7 (put .put-slot .ensures (modelOf (start e .args .m .now)) free (start e .pre .same) (put .before .before .free .ensures .1) (f .high))
     (c .before .before .wake-all .ensures))
 
 pub delete-spec : {M : Type 1} → statement M
