@@ -1,7 +1,7 @@
 -- What is read from a layout: the counts, each task, each slot, and the whole model.
 use mathlib.Core.Path.{_≡_, refl, sym, ap, _∙_}
 use mathlib.Core.List.{List}
-use Prim.Native.Nat.{ℕ, _+_, _*_, _≤_, _<_}
+use Prim.Native.Nat.{ℕ, suc, _+_, _*_, _≤_, _<_}
 use native.Mathlib.Omega.{arith}
 use native.Mathlib.Decide.{decLt}
 use lib.ListN.{length, getD, List·getD-eq-default}
@@ -34,26 +34,43 @@ limited-holds t h b = record { limited = h; words = laid-words t b }
 -- ---- rows that are read from any bytes
 
 -- a row is that of the record that is read from it
-pub task-row : (bs : List ℕ) (i : ℕ) → taskRow (taskAt bs i) ≡ rowAt bs (taskPlace i) 4
+task-row : (bs : List ℕ) (i : ℕ) → taskRow (taskAt bs i) ≡ rowAt bs (taskPlace i) 4
 unfolding taskAt tabulate
 task-row bs i = refl
 
-pub slot-row : (bs : List ℕ) (i : ℕ) → recordRow (recordAt bs i) ≡ rowAt bs (slotPlace i) 40
+slot-row : (bs : List ℕ) (i : ℕ) → recordRow (recordAt bs i) ≡ rowAt bs (slotPlace i) 40
 unfolding recordAt tabulate
 slot-row bs i = refl
 
--- `record-below bs b i 0` is that the generation of slot i is below 2 ^ 32, and so on in the order of the row
-module _ (bs : List ℕ) (b : Bytes bs) where
-  row-below : (at n : ℕ) → Words (rowAt bs at n)
-  row-below at n =
-      words-within n (rowAt bs at n) (length-tabulate n (λ j. wordAt bs (at + j)))
-      (λ k l. rw (getD-tabulate n (λ j. wordAt bs (at + j)) k 0 l) (wordAt-below bs b (at + k)))
+-- the queue stands behind the eight words of the head
+pub queue-word : (s : Semaphore) (k : ℕ) → getD (recordRow s) (8 + k) 0 ≡ getD (s .queue) k 0
+queue-word s k =
+    let e : 8 + k ≡ suc (suc (suc (suc (suc (suc (suc (suc k))))))) = omega arith in
+    ap (λ (n : ℕ). getD (recordRow s) n 0) e
 
-  pub task-below : (i : ℕ) → Words (taskRow (taskAt bs i))
-  task-below i k = omega (arith, ap (λ (r : List ℕ). getD r k 0) (task-row bs i), row-below (taskPlace i) 4 k)
+module _ (bs : List ℕ) (i : ℕ) where
+  -- word k of a row stands k words behind its place
+  pub task-word-at : (k : ℕ) → k < 4 → wordAt bs (taskPlace i + k) ≡ getD (taskRow (taskAt bs i)) k 0
+  task-word-at k l = sym (ap (λ (r : List ℕ). getD r k 0) (task-row bs i) ∙ getD-tabulate 4 (λ j. wordAt bs (taskPlace i + j)) k 0 l)
 
-  pub record-below : (i : ℕ) → Words (recordRow (recordAt bs i))
-  record-below i k = omega (arith, ap (λ (r : List ℕ). getD r k 0) (slot-row bs i), row-below (slotPlace i) 40 k)
+  pub slot-word-at : (k : ℕ) → k < 40 → wordAt bs (slotPlace i + k) ≡ getD (recordRow (recordAt bs i)) k 0
+  slot-word-at k l = sym (ap (λ (r : List ℕ). getD r k 0) (slot-row bs i) ∙ getD-tabulate 40 (λ j. wordAt bs (slotPlace i + j)) k 0 l)
+
+  pub queue-word-at : (k : ℕ) → k < 32 → wordAt bs (slotPlace i + 8 + k) ≡ getD (recordAt bs i .queue) k 0
+  queue-word-at k l = ap (wordAt bs) (omega arith) ∙ slot-word-at (8 + k) (omega arith) ∙ queue-word (recordAt bs i) k
+
+  pub queue-places : length (recordAt bs i .queue) ≡ 32
+  queue-places = omega (arith, ap length (slot-row bs i), length-tabulate 40 (λ j. wordAt bs (slotPlace i + j)))
+
+  -- `record-below b 0` is that the generation is below 2 ^ 32, and so on in the order of the row
+  module _ (b : Bytes bs) where
+    pub task-below : Words (taskRow (taskAt bs i))
+    task-below = words-within 4 (taskRow (taskAt bs i)) refl (λ k l. rw (← task-word-at k l) (wordAt-below bs b (taskPlace i + k)))
+
+    pub record-below : Words (recordRow (recordAt bs i))
+    record-below =
+        words-within 40 (recordRow (recordAt bs i)) (omega (arith, queue-places))
+        (λ k l. rw (← slot-word-at k l) (wordAt-below bs b (slotPlace i + k)))
 
 -- ---- a row reads back: a task's as `taskFrom (taskRow v)` computes, a slot's with its queue within 32 places
 

@@ -24,9 +24,9 @@ use Rattle.tables.specs.Codec.{taskRow, taskFrom, recordFrom, slotRow}
 use Rattle.tables.specs.Layout.{tablesLength, taskPlace, slotPlace, layout, laid, rowAt, taskAt, recordAt, modelOf, isQueueLaid, isLaid}
 use Rattle.tables.specs.Sizes.{Bounded, Limited, Holds, IsLayout}
 use Rattle.tables.proofs.LayoutWords.{no-slot-word, length-layout, task-word, slot-word, by-place}
-use Rattle.tables.proofs.LayoutRead.{length-laid, limited-holds, task-row, slot-row, queue-few, word-laid, record-laid, laid-tasks, laid-slots}
+use Rattle.tables.proofs.LayoutRead.{length-laid, limited-holds, task-word-at, slot-word-at, queue-word-at}
+use Rattle.tables.proofs.LayoutRead.{queue-places, queue-few, word-laid, record-laid, laid-tasks, laid-slots}
 use Rattle.tables.proofs.LayoutStore.{record-row}
-use Rattle.tables.proofs.LoadStore.{queue-places, queue-word}
 
 -- ---- a layout passes the test
 
@@ -66,7 +66,7 @@ module _ (t : Tables) (h : Holds t) where
       (blank-of (laid t) (slotPlace i + 8 + recordAt (laid t) i .waiters) (slotPlace i + 40) λ k a b.
       let j : ℕ = k - (slotPlace i + 8) in
       ap (wordAt (laid t)) (omega arith)
-      ∙ queue-word (laid t) i j (omega arith)
+      ∙ queue-word-at (laid t) i j (omega arith)
       ∙ ap (λ (s : Semaphore). getD (s .queue) j 0) r
       ∙ getD-fit 32 0 q j (omega arith)
       ∙ List·getD-eq-default q 0 (omega arith))
@@ -155,7 +155,7 @@ module _ (bs : List ℕ) (p : Passed bs) where
             let w : ℕ = recordAt bs i .waiters in
             let behind : (k : ℕ) → w ≤ k → k < 32 → getD (recordAt bs i .queue) k 0 ≡ 0 =
             λ k a b.
-            sym (queue-word bs i k b)
+            sym (queue-word-at bs i k b)
             ∙ blank-at bs (slotPlace i + 8 + w) (slotPlace i + 40) (and-both _ _ e .1) (slotPlace i + 8 + k) (omega arith) (omega arith)
             in
             record { few = leb-true w 32 (a .0); filled = fit-take 32 0 w (recordAt bs i .queue) (queue-places bs i) behind }
@@ -168,12 +168,12 @@ module _ (bs : List ℕ) (p : Passed bs) where
       (unfold layout modelOf in length-tabulate (wordAt bs 1) (λ i. slotFrom (recordAt bs i)))
       (λ i j l b.
       task-word (modelOf bs) i j l b
-      ∙ ap (λ (r : List ℕ). getD r j 0) (ap {B = List ℕ} taskRow (task-there i l) ∙ task-row bs i)
-      ∙ getD-tabulate 4 (λ j. wordAt bs (taskPlace i + j)) j 0 b)
+      ∙ ap (λ (v : Task). getD (taskRow v) j 0) (task-there i l)
+      ∙ sym (task-word-at bs i j b))
       (λ i j l b.
       slot-word (modelOf bs) i j l b
-      ∙ ap (λ (r : List ℕ). getD r j 0) (ap {B = List ℕ} slotRow (slot-there i l) ∙ sym (record-row (recordAt bs i) (padded i l)) ∙ slot-row bs i)
-      ∙ getD-tabulate 40 (λ j. wordAt bs (slotPlace i + j)) j 0 b)
+      ∙ ap (λ (r : List ℕ). getD r j 0) (ap {B = List ℕ} slotRow (slot-there i l) ∙ sym (record-row (recordAt bs i) (padded i l)))
+      ∙ sym (slot-word-at bs i j b))
 
   model-limited : Limited (modelOf bs)
   unfolding modelOf

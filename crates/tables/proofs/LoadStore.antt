@@ -1,24 +1,23 @@
 -- What the loads, the stores and the tests of the tables come to, on plain lists.
-use mathlib.Core.Path.{_≡_, refl, ap, sym, _∙_}
+use mathlib.Core.Path.{_≡_, ap, sym, _∙_}
 use mathlib.Core.Bool.{Bool, true, false}
 use mathlib.Core.List.{List, [], _∷_}
 use Prim.Native.Nat.{ℕ, _+_, _*_, _≤_, _<_}
 use native.Mathlib.Omega.{arith}
 use lib.Dec.{leb}
-use lib.ListN.{length, getD, drop}
+use lib.ListN.{length}
 use lib.Seq.{sets}
 use borrow.Author.Tests.{le-leb, lt-leb, eq-eqb, ne-eqb}
 use Rattle.laws.specs.Choose.{_and_}
 use Rattle.laws.proofs.Choose.{if-yes, if-no}
 use Rattle.laws.specs.All.{all}
-use Rattle.laws.specs.Rows.{tabulate}
-use Rattle.laws.proofs.Fit.{length-tabulate, getD-tabulate, tabulate-same, sets-join}
+use Rattle.laws.proofs.Fit.{sets-join}
 use Rattle.words.specs.Words.{bytesOf, wordAt, blank}
 use Rattle.rules.specs.declared.Task.{Task}
 use Rattle.semaphore.specs.declared.Semaphore.{Semaphore}
 use Rattle.tables.specs.declared.Head.{Head}
 use Rattle.tables.specs.Codec.{recordRow}
-use Rattle.tables.specs.Layout.{tablesLength, taskPlace, slotPlace, taskAt, headOf, recordAt, isQueueLaid, isLaid}
+use Rattle.tables.specs.Layout.{tablesLength, taskPlace, slotPlace, headOf, recordAt, isQueueLaid, isLaid}
 
 -- ---- a slot, stored as its eight words and then its queue
 
@@ -52,45 +51,14 @@ recordWith s queue =
       queue = queue;
     }
 
--- a row's first word stands at its place
-first-word : (bs : List ℕ) (at w : ℕ) → w ≡ wordAt bs at → w ≡ wordAt bs (at + 0)
-first-word bs at w e = e ∙ ap (wordAt bs) (omega arith)
+pub task-loaded : (v : Task) (a b c d : ℕ) → a ≡ v .priority → b ≡ v .answer → c ≡ v .awaited → d ≡ v .ticks
+    → _≡_ {A = Task} (record { priority = a; answer = b; awaited = c; ticks = d }) v
+task-loaded v a b c d ea eb ec ed = λ k. record { priority = ea k; answer = eb k; awaited = ec k; ticks = ed k }
 
-pub generation-loaded : (bs : List ℕ) (i w : ℕ) → w ≡ wordAt bs (slotPlace i) → w ≡ recordAt bs i .generation
-unfolding recordAt tabulate
-generation-loaded bs i w e = first-word bs (slotPlace i) w e
-
-pub task-loaded : (bs : List ℕ) (i a b c d : ℕ)
-    → a ≡ wordAt bs (taskPlace i) → b ≡ wordAt bs (taskPlace i + 1) → c ≡ wordAt bs (taskPlace i + 2) → d ≡ wordAt bs (taskPlace i + 3)
-    → _≡_ {A = Task} (record { priority = a; answer = b; awaited = c; ticks = d }) (taskAt bs i)
-unfolding taskAt tabulate
-task-loaded bs i a b c d ea eb ec ed = cc (first-word bs (taskPlace i) a ea)
-
-pub head-loaded : (bs : List ℕ) (i a b c d e f g h : ℕ)
-    → a ≡ wordAt bs (slotPlace i) → b ≡ wordAt bs (slotPlace i + 1) → c ≡ wordAt bs (slotPlace i + 2) → d ≡ wordAt bs (slotPlace i + 3)
-    → e ≡ wordAt bs (slotPlace i + 4) → f ≡ wordAt bs (slotPlace i + 5) → g ≡ wordAt bs (slotPlace i + 6) → h ≡ wordAt bs (slotPlace i + 7)
-    → _≡_ {A = Head}
-    (record { generation = a; live = b; name = c; attributes = d; count = e; owner = f; nest = g; waiters = h })
-    (headOf (recordAt bs i))
-unfolding recordAt tabulate
-head-loaded bs i a b c d e f g h ea eb ec ed ee ef eg eh = cc (first-word bs (slotPlace i) a ea)
-
--- the places of a queue
-queue-from : (f : ℕ → ℕ) → drop 8 (tabulate 40 f) ≡ tabulate 32 (λ k. f (8 + k))
-unfolding tabulate
-queue-from f = refl
-
-pub queue-row : (bs : List ℕ) (i : ℕ) → tabulate 32 (λ k. wordAt bs (slotPlace i + 8 + k)) ≡ recordAt bs i .queue
-unfolding recordAt
-queue-row bs i =
-    tabulate-same 32 (λ k. wordAt bs (slotPlace i + 8 + k)) (λ k. wordAt bs (slotPlace i + (8 + k))) (λ k l. ap (wordAt bs) (omega arith))
-    ∙ sym (queue-from (λ k. wordAt bs (slotPlace i + k)))
-
-pub queue-places : (bs : List ℕ) (i : ℕ) → length (recordAt bs i .queue) ≡ 32
-queue-places bs i = rw (← queue-row bs i) (length-tabulate 32 (λ k. wordAt bs (slotPlace i + 8 + k)))
-
-pub queue-word : (bs : List ℕ) (i k : ℕ) → k < 32 → wordAt bs (slotPlace i + 8 + k) ≡ getD (recordAt bs i .queue) k 0
-queue-word bs i k l = sym (getD-tabulate 32 (λ k. wordAt bs (slotPlace i + 8 + k)) k 0 l) ∙ ap (λ (q : List ℕ). getD q k 0) (queue-row bs i)
+pub head-loaded : (s : Semaphore) (a b c d e f g h : ℕ) → a ≡ s .generation → b ≡ s .live → c ≡ s .name → d ≡ s .attributes
+    → e ≡ s .count → f ≡ s .owner → g ≡ s .nest → h ≡ s .waiters
+    → _≡_ {A = Head} (record { generation = a; live = b; name = c; attributes = d; count = e; owner = f; nest = g; waiters = h }) (headOf s)
+head-loaded s a b c d e f g h ea eb ec ed ee ef eg eh = cc
 
 -- what stands before a queue, with the queue
 pub slot-loaded : (s : Semaphore) (head : Head) (queue : List ℕ) → head ≡ headOf s → queue ≡ s .queue → recordWith head queue ≡ s

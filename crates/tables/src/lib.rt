@@ -28,7 +28,9 @@ const SLOT_WORDS: usize = 40;
 
 const TABLES_WORDS: usize = 2690;
 
-// Words of a slot behind its generation: its numbers, the count of its waiters, and the places of its queue.
+// Words of a slot: its numbers, the count of its waiters, and the places of its queue.
+const GENERATION: usize = 0;
+
 const LIVE: usize = 1;
 
 const NAME: usize = 2;
@@ -83,16 +85,30 @@ pub fn store_counts(m: &mut [u8], tasks: u32, slots: u32)
     words::set_words(m, 0, &row);
 }
 
+// Word k of a task's row, and of a slot's.
+fn task_word(m: &[u8], i: usize, k: usize) -> u32
+    requires { ⌜ (length (now m) ≡ tablesLength) × (i < 32) × (k < 4) ⌝ }
+    ensures { λ r. ⌜ r ≡ getD (taskRow (taskAt (now (m .entry)) i)) k 0 ⌝ }
+{
+    words::word(m, TASKS_AT + TASK_WORDS * i + k)
+}
+
+fn slot_word(m: &[u8], i: usize, k: usize) -> u32
+    requires { ⌜ (length (now m) ≡ tablesLength) × (i < 64) × (k < 40) ⌝ }
+    ensures { λ r. ⌜ r ≡ getD (recordRow (recordAt (now (m .entry)) i)) k 0 ⌝ }
+{
+    words::word(m, SLOTS_AT + SLOT_WORDS * i + k)
+}
+
 pub fn load_task(m: &[u8], i: usize) -> Task
     requires { ⌜ (length (now m) ≡ tablesLength) × (i < 32) ⌝ }
     ensures { λ r. ⌜ r ≡ taskAt (now (m .entry)) i ⌝ }
 {
-    let at = TASKS_AT + TASK_WORDS * i;
     Task {
-        priority: words::word(m, at),
-        answer: words::word(m, at + 1),
-        awaited: words::word(m, at + 2),
-        ticks: words::word(m, at + 3),
+        priority: task_word(m, i, 0),
+        answer: task_word(m, i, 1),
+        awaited: task_word(m, i, 2),
+        ticks: task_word(m, i, 3),
     }
 }
 
@@ -109,28 +125,28 @@ pub fn slot_generation(m: &[u8], i: usize) -> u32
     requires { ⌜ (length (now m) ≡ tablesLength) × (i < 64) ⌝ }
     ensures { λ r. ⌜ r ≡ recordAt (now (m .entry)) i .generation ⌝ }
 {
-    words::word(m, SLOTS_AT + SLOT_WORDS * i)
+    slot_word(m, i, GENERATION)
 }
 
 pub fn slot_live(m: &[u8], i: usize) -> u32
     requires { ⌜ (length (now m) ≡ tablesLength) × (i < 64) ⌝ }
     ensures { λ r. ⌜ r ≡ recordAt (now (m .entry)) i .live ⌝ }
 {
-    words::word(m, SLOTS_AT + SLOT_WORDS * i + LIVE)
+    slot_word(m, i, LIVE)
 }
 
 pub fn slot_name(m: &[u8], i: usize) -> u32
     requires { ⌜ (length (now m) ≡ tablesLength) × (i < 64) ⌝ }
     ensures { λ r. ⌜ r ≡ recordAt (now (m .entry)) i .name ⌝ }
 {
-    words::word(m, SLOTS_AT + SLOT_WORDS * i + NAME)
+    slot_word(m, i, NAME)
 }
 
 pub fn slot_waiters(m: &[u8], i: usize) -> u32
     requires { ⌜ (length (now m) ≡ tablesLength) × (i < 64) ⌝ }
     ensures { λ r. ⌜ r ≡ recordAt (now (m .entry)) i .waiters ⌝ }
 {
-    words::word(m, SLOTS_AT + SLOT_WORDS * i + WAITERS)
+    slot_word(m, i, WAITERS)
 }
 
 // The task at place k of a slot's queue.
@@ -138,23 +154,22 @@ pub fn queue_entry(m: &[u8], i: usize, k: usize) -> u32
     requires { ⌜ (length (now m) ≡ tablesLength) × (i < 64) × (k < 32) ⌝ }
     ensures { λ r. ⌜ r ≡ getD (recordAt (now (m .entry)) i .queue) k 0 ⌝ }
 {
-    words::word(m, SLOTS_AT + SLOT_WORDS * i + QUEUE + k)
+    slot_word(m, i, QUEUE + k)
 }
 
 pub fn load_head(m: &[u8], i: usize) -> Head
     requires { ⌜ (length (now m) ≡ tablesLength) × (i < 64) ⌝ }
     ensures { λ r. ⌜ r ≡ headOf (recordAt (now (m .entry)) i) ⌝ }
 {
-    let at = SLOTS_AT + SLOT_WORDS * i;
     Head {
-        generation: words::word(m, at),
-        live: words::word(m, at + LIVE),
-        name: words::word(m, at + NAME),
-        attributes: words::word(m, at + ATTRIBUTES),
-        count: words::word(m, at + COUNT),
-        owner: words::word(m, at + OWNER),
-        nest: words::word(m, at + NEST),
-        waiters: words::word(m, at + WAITERS),
+        generation: slot_word(m, i, GENERATION),
+        live: slot_word(m, i, LIVE),
+        name: slot_word(m, i, NAME),
+        attributes: slot_word(m, i, ATTRIBUTES),
+        count: slot_word(m, i, COUNT),
+        owner: slot_word(m, i, OWNER),
+        nest: slot_word(m, i, NEST),
+        waiters: slot_word(m, i, WAITERS),
     }
 }
 
@@ -162,11 +177,10 @@ fn load_queue(m: &[u8], i: usize) -> [u32; 32]
     requires { ⌜ (length (now m) ≡ tablesLength) × (i < 64) ⌝ }
     ensures { λ r. ⌜ r ≡ recordAt (now (m .entry)) i .queue ⌝ }
 {
-    let at = SLOTS_AT + SLOT_WORDS * i + QUEUE;
     let mut queue = [0u32; 32];
     let mut k = 0;
     while k < QUEUE_PLACES {
-        queue[k] = words::word(m, at + k);
+        queue[k] = queue_entry(m, i, k);
         k += 1;
     }
     queue

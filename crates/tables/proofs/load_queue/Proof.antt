@@ -1,40 +1,29 @@
--- `tables::load_queue` meets its contract. The invariant: the places passed hold their words.
+-- `tables::load_queue` meets its contract. The invariant: the places passed hold their entries.
 use borrow.Author.Needs.{needs}
-use mathlib.Core.Path.{_≡_, _∙_}
-use Prim.Native.Nat.{_≤_, _-_, _+_}
+use mathlib.Core.Path.{_≡_, sym, _∙_}
+use Prim.Native.Nat.{_≤_, _-_}
 use native.Mathlib.Omega.{arith}
-use lib.ListN.{length, length-set, replicate}
-use Rattle.words.specs.Words.{wordAt}
-use Rattle.laws.proofs.Fit.{tabulate-is}
+use lib.ListN.{length, getD, length-set, replicate}
+use lib.Seq.{ext-getD}
 use Rattle.laws.proofs.Mapped.{Filled, filled-none, filled-more}
-use Rattle.tables.specs.Layout.{slotPlace}
-use Rattle.tables.proofs.LoadStore.{queue-row}
+use Rattle.tables.specs.Layout.{recordAt}
+use Rattle.tables.proofs.LayoutRead.{queue-places}
 use Rattle.tables.proofs.load_queue.Statement.{statement}
 use Rattle.tables.proofs.load_queue.Tie as tie
 
 abbrev Inv-loop : tie.InvT-loop
-Inv-loop m i at queue₀ k₀ queue k = (k ≤ 32) × (length queue ≡ 32) × Filled (λ j. wordAt m (slotPlace i + 8 + j)) 0 queue k
+Inv-loop m i queue₀ k₀ queue k = (k ≤ 32) × (length queue ≡ 32) × Filled (λ j. getD (recordAt m i .queue) j 0) 0 queue k
 
 abbrev μ-loop : tie.MeasureT-loop
-μ-loop m i at queue₀ k₀ queue k = 32 - k
-
-mul-at : tie.Need-mul-at Inv-loop μ-loop
-mul-at c = search needs
-
-add-at : tie.Need-add-at Inv-loop μ-loop
-add-at c = search needs
-
-add-at-2 : tie.Need-add-at-2 Inv-loop μ-loop
-add-at-2 c = search needs
+μ-loop m i queue₀ k₀ queue k = 32 - k
 
 loop-holds : tie.Need-loop-holds Inv-loop μ-loop
-loop-holds c = (omega arith, omega arith, filled-none (λ j. wordAt (c .before .args .m .now) (slotPlace (c .before .args .i) + 8 + j)) 0 (replicate 32 0))
+loop-holds c =
+    let first = c .before .args in
+    (omega arith, omega arith, filled-none (λ j. getD (recordAt (first .m .now) (first .i) .queue) j 0) 0 (replicate 32 0))
 
-add-word : tie.Need-add-word Inv-loop μ-loop
-add-word c = search needs
-
-word-requires : tie.Need-word-requires Inv-loop μ-loop
-word-requires c κs = search needs
+queue-entry-requires : tie.Need-queue-entry-requires Inv-loop μ-loop
+queue-entry-requires c κs = search needs
 
 mul-queue : tie.Need-mul-queue Inv-loop μ-loop
 mul-queue c = search needs
@@ -51,28 +40,16 @@ loop-less c = search needs
 loop-again : tie.Need-loop-again Inv-loop μ-loop
 loop-again c =
     let turn = c .before .before .loop in
-    (omega arith, simp length-set (omega arith), filled-more _ 0 (turn .queue) (turn .k) _ (omega arith) (c .word .ensures) (turn .inv .2))
+    (omega arith, simp length-set (omega arith), filled-more _ 0 (turn .queue) (turn .k) _ (omega arith) (c .queue-entry .ensures) (turn .inv .2))
 
 returns : tie.Need-returns Inv-loop μ-loop
 returns c =
-    tabulate-is 32 _ (c .before .loop .queue) 0 (omega arith) (λ j h. c .before .loop .inv .2 j (omega arith))
-    ∙ queue-row (c .before .before .before .args .m .now) (c .before .before .before .args .i)
+    let first = c .before .before .before .args in
+    let turn = c .before .loop in
+    ext-getD 0 (turn .queue) (recordAt (first .m .now) (first .i) .queue) (turn .inv .1 ∙ sym (queue-places (first .m .now) (first .i)))
+    (λ j h. turn .inv .2 j (omega arith))
 
 pub load-queue-spec : {M : Type 1} → statement M
 load-queue-spec =
     tie.close
-    (tie.spec
-    Inv-loop
-    μ-loop
-    mul-at
-    add-at
-    add-at-2
-    loop-holds
-    add-word
-    word-requires
-    mul-queue
-    array-write-queue
-    add-k
-    loop-less
-    loop-again
-    returns)
+    (tie.spec Inv-loop μ-loop loop-holds queue-entry-requires mul-queue array-write-queue add-k loop-less loop-again returns)

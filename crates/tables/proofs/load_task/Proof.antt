@@ -1,53 +1,27 @@
--- `tables::load_task` meets its contract: four words make a task.
+-- `tables::load_task` meets its contract: four words.
 use borrow.Author.Needs.{needs}
+use Rattle.tables.specs.Layout.{taskAt}
 use Rattle.tables.proofs.LoadStore.{task-loaded}
 use Rattle.tables.proofs.load_task.Statement.{statement}
 use Rattle.tables.proofs.load_task.Tie as tie
 
-mul-at : tie.Need-mul-at
-mul-at c = search needs
+task-word-requires : tie.Need-task-word-requires
+task-word-requires c κs = search needs
 
-add-at : tie.Need-add-at
-add-at c = search needs
+task-word-requires-2 : tie.Need-task-word-requires-2
+task-word-requires-2 c κs = search needs
 
-word-requires : tie.Need-word-requires
-word-requires c κs = search needs
+task-word-requires-3 : tie.Need-task-word-requires-3
+task-word-requires-3 c κs = search needs
 
-add-word : tie.Need-add-word
-add-word c = search needs
-
-word-requires-2 : tie.Need-word-requires-2
-word-requires-2 c κs = search needs
-
-add-word-2 : tie.Need-add-word-2
-add-word-2 c = search needs
-
-word-requires-3 : tie.Need-word-requires-3
-word-requires-3 c κs = search needs
-
-add-word-3 : tie.Need-add-word-3
-add-word-3 c = search needs
-
-word-requires-4 : tie.Need-word-requires-4
-word-requires-4 c κs = search needs
+task-word-requires-4 : tie.Need-task-word-requires-4
+task-word-requires-4 c κs = search needs
 
 returns : tie.Need-returns
 returns c =
     let first = c .before .before .before .before .before .args in
-    task-loaded (first .m .now) (first .i) _ _ _ _ (c .before .before .before .word .ensures) (c .before .before .word2 .ensures)
-    (c .before .word3 .ensures) (c .word4 .ensures)
+    task-loaded (taskAt (first .m .now) (first .i)) _ _ _ _ (c .before .before .before .task-word .ensures) (c .before .before .task-word2 .ensures)
+    (c .before .task-word3 .ensures) (c .task-word4 .ensures)
 
 pub load-task-spec : {M : Type 1} → statement M
-load-task-spec =
-    tie.close
-    (tie.spec
-    mul-at
-    add-at
-    word-requires
-    add-word
-    word-requires-2
-    add-word-2
-    word-requires-3
-    add-word-3
-    word-requires-4
-    returns)
+load-task-spec = tie.close (tie.spec task-word-requires task-word-requires-2 task-word-requires-3 task-word-requires-4 returns)
