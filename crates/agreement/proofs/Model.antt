@@ -14,7 +14,7 @@ use Rattle.semaphore.specs.Record.{slotFrom}
 use Rattle.tables.specs.declared.Head.{Head}
 use Rattle.tables.specs.Layout.{slotPlace, taskAt, headOf, slotWith, recordAt, modelOf}
 use Rattle.tables.specs.Sizes.{Bounded}
-use Rattle.tables.proofs.LoadStore.{queue-places}
+use Rattle.tables.proofs.LayoutRead.{queue-places}
 use Rattle.lookup.proofs.Model.{task-read, slot-read}
 use Rattle.agreement.specs.Tests.{QueueTested, SlotTested}
 

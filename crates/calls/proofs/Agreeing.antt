@@ -15,18 +15,18 @@ use Rattle.words.proofs.WordsInBytes.{Bytes, Words}
 use Rattle.rules.specs.declared.Call.{Call}
 use Rattle.rules.specs.Numbers.{allowed, isBinary}
 use Rattle.rules.specs.Machine.{Slot, Tables, noTask, isLive}
-use Rattle.rules.specs.Agreement.{Agrees, sizesFit}
+use Rattle.rules.specs.Agreement.{Agrees, sizesFit, isEnding}
 use Rattle.rules.specs.Calls.{Outcome, perform, step}
 use Rattle.rules.specs.Fits.{callFits}
-use Rattle.rules.proofs.Invariants.Facts.{Facts, TaskFits, SlotFits, Unheld, Held, nthTask, nthSlot, isEnding}
+use Rattle.rules.proofs.Invariants.Facts.{Facts, TaskFits, SlotFits, Unheld, Held, nthTask, nthSlot}
 use Rattle.rules.proofs.Invariants.FromTests.{agrees-facts}
 use Rattle.rules.proofs.Invariants.Agreeing.{agrees-true}
 use Rattle.rules.proofs.Invariants.Room as room
 use Rattle.rules.proofs.Invariants.Kept.{kept}
 use Rattle.tables.specs.Codec.{taskRow, slotRow}
 use Rattle.tables.specs.Layout.{laid, modelOf}
-use Rattle.tables.specs.Sizes.{Holds}
-use Rattle.tables.specs.Sizes.{Sized}
+
+use Rattle.tables.specs.Sizes.{Sized, Holds}
 use Rattle.tables.proofs.LayoutRead.{length-laid, modelOf-laid}
 use Rattle.tables.proofs.LayoutHolds.{holds-rows, laid-bytes, task-row-words, slot-row-words}
 use Rattle.lookup.proofs.Model.{length-tasks, length-slots}

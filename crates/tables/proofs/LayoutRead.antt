@@ -62,15 +62,15 @@ module _ (bs : List ℕ) (i : ℕ) where
   pub queue-places : length (recordAt bs i .queue) ≡ 32
   queue-places = omega (arith, ap length (slot-row bs i), length-tabulate 40 (λ j. wordAt bs (slotPlace i + j)))
 
-  -- `record-below b 0` is that the generation is below 2 ^ 32, and so on in the order of the row
-  module _ (b : Bytes bs) where
-    pub task-below : Words (taskRow (taskAt bs i))
-    task-below = words-within 4 (taskRow (taskAt bs i)) refl (λ k l. rw (← task-word-at k l) (wordAt-below bs b (taskPlace i + k)))
+-- `record-below bs b i 0` is that the generation of slot i is below 2 ^ 32, and so on in the order of the row
+module _ (bs : List ℕ) (b : Bytes bs) (i : ℕ) where
+  pub task-below : Words (taskRow (taskAt bs i))
+  task-below = words-within 4 (taskRow (taskAt bs i)) refl (λ k l. rw (← task-word-at bs i k l) (wordAt-below bs b (taskPlace i + k)))
 
-    pub record-below : Words (recordRow (recordAt bs i))
-    record-below =
-        words-within 40 (recordRow (recordAt bs i)) (omega (arith, queue-places))
-        (λ k l. rw (← slot-word-at k l) (wordAt-below bs b (slotPlace i + k)))
+  pub record-below : Words (recordRow (recordAt bs i))
+  record-below =
+      words-within 40 (recordRow (recordAt bs i)) (omega (arith, queue-places bs i))
+      (λ k l. rw (← slot-word-at bs i k l) (wordAt-below bs b (slotPlace i + k)))
 
 -- ---- a row reads back: a task's as `taskFrom (taskRow v)` computes, a slot's with its queue within 32 places
 
