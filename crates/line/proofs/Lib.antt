@@ -3,5 +3,5 @@ mod Digits
 mod Reading
 mod Words
 mod Requests
-mod Printing
+pub mod Printing
 mod Vectors

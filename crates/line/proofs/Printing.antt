@@ -144,6 +144,19 @@ pub three-texts : (a : Answer) → (decimal (a .status) ++ 32 ∷ []) ++ (decima
 unfolding answerLine
 three-texts a = simp append-assoc
 
+-- so an answer is at most 33 bytes
+pub answer-length : (a : Answer) → length (answerLine a) ≤ 33
+answer-length a =
+    omega (
+      arith,
+      ap length (three-texts a),
+      length-append ((decimal (a .status) ++ 32 ∷ []) ++ (decimal (a .value) ++ 32 ∷ [])) (decimal (a .next) ++ 10 ∷ []),
+      length-append (decimal (a .status) ++ 32 ∷ []) (decimal (a .value) ++ 32 ∷ []),
+      decimal-length (a .status) 32,
+      decimal-length (a .value) 32,
+      decimal-length (a .next) 10,
+    )
+
 -- an answer's three numbers, each written where the one before it ends
 pub answer-written :
     (a : Answer) (out o₁ o₂ o₃ : List ℕ) (r₁ r₂ r₃ : ℕ)

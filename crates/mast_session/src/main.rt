@@ -1,24 +1,52 @@
 // A session in text: standard input, or the file that the argument names, is answered on standard output.
+// What is read and what is written no contract can say. What is done with it they do: which bytes the session is fed, in order and once,
+// and that every byte it says is handed to standard output.
+ghost use mathlib.Core.Path.{_≡_};
+ghost use mathlib.Core.Bool.{true};
 ghost use Prim.Native.Nat.{_≤_};
-ghost use lib.ListN.{length};
+ghost use lib.ListN.{length, take};
+ghost use Rattle.rules.specs.Machine.{unstarted};
+ghost use Rattle.tables.specs.Layout.{laid};
+ghost use Rattle.session.specs.Kept.{keeps, saidToPart, Reached};
+ghost use Rattle.mast_session.specs.Turns.{Turned, Answers, Ends, Within, Does, DoesSome, Ran};
 use libc::STDERR_FILENO;
 use libc::STDIN_FILENO;
 use libc::STDOUT_FILENO;
 
-// After a turn: how many bytes of the input it took, how long the line is that has begun, and whether to go on.
+// What a read gave: so many bytes at the front of the buffer, the end of the input, or an error.
+enum Heard {
+    Bytes(usize),
+    End,
+    Failed,
+}
+
+// After a turn: how many bytes of the input were fed, how long the line is that has begun, how many bytes were handed to standard output, and
+// whether to go on.
 struct Turn {
     pub taken: usize,
     pub begun: usize,
-    pub goes_on: bool,
+    pub said: usize,
+    pub going: bool,
+}
+
+// How many bytes were handed to standard output, and whether it took them all.
+struct Said {
+    pub length: usize,
+    pub going: bool,
 }
 
 // Writes what is said, and says so where that fails.
-fn say(said: &[u8]) -> bool {
+fn say(said: &[u8]) -> Said
+    ensures { λ r. ⌜ r .length ≡ length (now (said .entry)) ⌝ }
+{
     let is_written = io::write_all(STDOUT_FILENO, said);
     if !is_written {
         os::fail(b"standard output");
     }
-    is_written
+    Said {
+        length: said.len(),
+        going: is_written,
+    }
 }
 
 // Feeds the session once, and writes what it says.
@@ -30,15 +58,17 @@ fn answer_some(
     out: &mut [u8],
 ) -> Turn
     requires { ⌜ (33 ≤ length (now out)) × (1 ≤ length (now input)) ⌝ }
-    ensures { λ r. ⌜ (r .taken ≤ length (now (input .entry))) × (1 ≤ r .taken) ⌝ }
+    ensures { λ r. ⌜ Answers r (keeps (now (m .entry)) (now (line .entry)) begun) (now (input .entry))
+        (now (m .exit)) (now (line .exit)) (now (out .exit)) ⌝ }
 {
     let fed = session::feed(m, line, begun, input, out);
     let written = fed.written;
-    let goes_on = say(&out[..written]);
+    let said = say(&out[..written]);
     Turn {
         taken: fed.taken,
         begun: fed.begun,
-        goes_on,
+        said: said.length,
+        going: said.going,
     }
 }
 
@@ -50,45 +80,104 @@ fn answer_part(
     input: &[u8],
     out: &mut [u8],
 ) -> Turn
-    requires { ⌜ 33 ≤ length (now out) ⌝ }
+    requires { ⌜ (33 ≤ length (now out)) × (length (now input) ≤ 65536) ⌝ }
+    ensures { λ r. ⌜ Turned r (keeps (now (m .entry)) (now (line .entry)) begun) (now (input .entry)) (now (m .exit)) (now (line .exit))
+        × (r .going ≡ true → r .taken ≡ length (now (input .entry))) ⌝ }
 {
     let mut taken = 0;
     let mut kept = begun;
+    let mut said = 0;
     while taken < input.len() {
         let turn = answer_some(m, line, kept, &input[taken..], out);
         taken += turn.taken;
         kept = turn.begun;
-        if !turn.goes_on {
+        said += turn.said;
+        if !turn.going {
             return Turn {
                 taken,
                 begun: kept,
-                goes_on: false,
+                said,
+                going: false,
             };
         }
     }
     Turn {
         taken,
         begun: kept,
-        goes_on: true,
+        said,
+        going: true,
     }
 }
 
 // Writes the first n bytes of what is said at the end.
-fn say_last(out: &[u8; 33], n: usize)
+fn say_last(out: &[u8; 33], n: usize) -> usize
     requires { ⌜ n ≤ 33 ⌝ }
+    ensures { λ r. ⌜ r ≡ n ⌝ }
 {
-    let said: &[u8] = out;
-    say(&said[..n]);
+    let all: &[u8] = out;
+    let said = say(&all[..n]);
+    said.length
 }
 
-// The input has ended: a line that has begun is answered.
-fn answer_end(m: &mut [u8], line: &[u8; 256], begun: usize) {
+// The input has ended: a line that has begun is answered. Returns how many bytes were handed to standard output.
+fn answer_end(m: &mut [u8], line: &[u8; 256], begun: usize) -> usize
+    ensures { λ r. ⌜ Ends r (keeps (now (m .entry)) (now (line .entry)) begun) (now (m .exit)) ⌝ }
+{
     let mut out = [0u8; 33];
     let n = session::finish(m, line, begun, &mut out);
-    say_last(&out, n);
+    say_last(&out, n)
 }
 
-// Reads once and answers what came before the next read, so that a person at a terminal is never kept waiting.
+// Answers what a read gave, before the next read, so that a person at a terminal is never kept waiting.
+fn answer_heard(
+    heard: Heard,
+    name: &[u8],
+    m: &mut [u8],
+    line: &mut [u8; 256],
+    begun: usize,
+    input: &[u8],
+    out: &mut [u8],
+) -> Turn
+    requires { ⌜ (33 ≤ length (now out)) × (length (now input) ≤ 65536) × Within heard (now input) ⌝ }
+    ensures { λ r. ⌜ Does r heard (keeps (now (m .entry)) (now (line .entry)) begun) (now (input .entry)) (now (m .exit)) (now (line .exit)) ⌝ }
+{
+    match heard {
+        Heard::Bytes(n) => answer_part(m, line, begun, &input[..n], out),
+        Heard::End => {
+            let said = answer_end(m, line, begun);
+            Turn {
+                taken: 0,
+                begun,
+                said,
+                going: false,
+            }
+        }
+        Heard::Failed => {
+            os::fail(name);
+            Turn {
+                taken: 0,
+                begun,
+                said: 0,
+                going: false,
+            }
+        }
+    }
+}
+
+fn hear(fd: i32, input: &mut [u8]) -> Heard
+    ensures { λ r. ⌜ Within r (now (input .exit)) ⌝ }
+{
+    let got = libc::read(fd, input);
+    if got < 0 {
+        return Heard::Failed;
+    }
+    if got == 0 {
+        return Heard::End;
+    }
+    Heard::Bytes(io::count(got, input))
+}
+
+// Reads once and answers what came.
 fn answer_read(
     fd: i32,
     name: &[u8],
@@ -98,27 +187,11 @@ fn answer_read(
     input: &mut [u8],
     out: &mut [u8],
 ) -> Turn
-    requires { ⌜ 33 ≤ length (now out) ⌝ }
+    requires { ⌜ (33 ≤ length (now out)) × (length (now input) ≤ 65536) × Reached (keeps (now m) (now line) begun) ⌝ }
+    ensures { λ r. ⌜ DoesSome r (keeps (now (m .entry)) (now (line .entry)) begun) (now (input .exit)) (now (m .exit)) (now (line .exit)) ⌝ }
 {
-    let got = libc::read(fd, input);
-    if got < 0 {
-        os::fail(name);
-        return Turn {
-            taken: 0,
-            begun,
-            goes_on: false,
-        };
-    }
-    if got == 0 {
-        answer_end(m, line, begun);
-        return Turn {
-            taken: 0,
-            begun,
-            goes_on: false,
-        };
-    }
-    let n = io::count(got, input);
-    answer_part(m, line, begun, &input[..n], out)
+    let heard = hear(fd, input);
+    answer_heard(heard, name, m, line, begun, input, out)
 }
 
 // A proved loop has to end, and nothing says that an input does: the turns are counted down from a number that no run uses up.
@@ -130,13 +203,14 @@ fn answer_all(
     input: &mut [u8],
     out: &mut [u8],
 )
-    requires { ⌜ 33 ≤ length (now out) ⌝ }
+    requires { ⌜ (33 ≤ length (now out)) × (length (now input) ≤ 65536) × (length (now line) ≡ 256) × (now m ≡ laid unstarted) ⌝ }
+    ensures { λ _. ⌜ Ran (now (m .exit)) ⌝ }
 {
     let mut begun = 0;
     let mut turns = u64::MAX;
     while turns > 0 {
         let turn = answer_read(fd, name, m, line, begun, input, out);
-        if !turn.goes_on {
+        if !turn.going {
             return;
         }
         begun = turn.begun;
@@ -146,11 +220,11 @@ fn answer_all(
 
 // A session from a machine that is not started.
 fn run(fd: i32, name: &[u8]) {
-    let mut tables = [0u8; 10760];
+    let mut memory = [0u8; tables::TABLES_LENGTH];
     let mut line = [0u8; 256];
     let mut input = io::large_buffer();
     let mut out = io::large_buffer();
-    answer_all(fd, name, &mut tables, &mut line, &mut input, &mut out);
+    answer_all(fd, name, &mut memory, &mut line, &mut input, &mut out);
 }
 
 // The session of the file that the argument names.

@@ -1,27 +1,61 @@
--- The bytes of a line that has begun, one more at a time.
-use mathlib.Core.Path.{_≡_, sym, ap, _∙_}
-use mathlib.Core.List.{List, [], _∷_, _++_}
-use Prim.Native.Nat.{ℕ, _+_, _≤_, _<_}
-use native.Mathlib.Numerals.{add-one}
+-- What every line is: its numbers are of 32 bits, and more than 256 bytes are none.
+use mathlib.Core.Path.{_≡_, refl}
+use mathlib.Core.Bool.{Bool, true}
+use mathlib.Core.List.{List, [], _∷_}
+use mathlib.Core.Option.{Option, none, some}
+use Prim.Native.Nat.{ℕ, zero, suc, _≤_, _<_}
 use native.Mathlib.Omega.{arith}
-use native.Mathlib.Decide.{decLt}
-use lib.ListN.{length, take, set, length-append}
-use lib.Seq.{take-suc-set, length-take-le}
-use Rattle.session.specs.Kept.{Begun}
+use lib.Dec.{leb}
+use lib.ListN.{length, getD, drop}
+use borrow.Author.Tests.{le-leb, lt-leb, leb-true}
+use Rattle.laws.specs.Choose.{choose}
+use Rattle.laws.proofs.Choose.{if-no, choose-cases, and-both, both-and}
+use Rattle.rules.specs.declared.Wait.{Wait}
+use Rattle.rules.specs.Numbers.{maxNumber}
+use Rattle.rules.specs.Semaphore.{waitOf}
+use Rattle.rules.specs.Runs.{Request}
+use Rattle.rules.specs.Fits.{waitFits, callFits}
+use Rattle.line.specs.Line.{fields, isNumber, areNumbers, numbers, requestOf, lineOf}
 
-module _ (bs line : List ℕ) (n b : ℕ) (full : length line ≡ 256) (g : Begun bs line n) where
-  -- a byte that is kept
-  pub begun-more : n < 256 → Begun (bs ++ b ∷ []) (set line n b) (n + 1)
-  begun-more h =
-      record {
-        few = λ l. ap (λ (x : List ℕ). x ++ b ∷ []) (g .few (omega arith)) ∙ sym (take-suc-set line n b (omega arith)) ∙ ap (λ (k : ℕ). take k (set line n b)) (sym (add-one n));
-        many = λ l. absurd (omega arith);
-      }
+numbers-fit : (fs : List (List ℕ)) → areNumbers fs ≡ true → (i : ℕ) → getD (numbers fs) i 0 ≤ maxNumber
+unfolding areNumbers numbers isNumber
+numbers-fit [] e i = omega arith
+numbers-fit (f ∷ fs) e zero = leb-true _ _ (and-both _ _ (and-both _ _ (and-both _ _ (and-both _ _ e .0) .1) .1) .1)
+numbers-fit (f ∷ fs) e (suc i) = numbers-fit fs (and-both _ _ e .1) i
 
-  -- a byte that is one too many
-  length-begun : 256 ≤ n → 256 ≤ length bs
-  length-begun h = elim (decLt 256 n) [ yes l ↦ omega (arith, g .many l) | no d ↦ omega (arith, ap length (g .few (omega arith)), length-take-le n line (omega arith)) ]
+wait-fits : (options timeout : ℕ) → timeout ≤ maxNumber → waitFits (waitOf options timeout) ≡ true
+unfolding waitOf
+wait-fits options timeout h =
+    choose-cases (λ (w : Wait). waitFits w ≡ true) _ _ _ (λ _. refl)
+    (λ _. choose-cases (λ (w : Wait). waitFits w ≡ true) _ _ _ (λ _. refl) (λ _. le-leb timeout maxNumber h))
 
-  pub begun-long : 256 ≤ n → Begun (bs ++ b ∷ []) line 257
-  begun-long h =
-      record { few = λ l. absurd (omega arith); many = λ _. omega (arith, length-append bs (b ∷ []), length-begun h) }
+-- a request's call has numbers that a u32 holds
+abbrev pub Fitting : Option Request → Type 0
+Fitting none = Unit {0}
+Fitting (some r) = callFits (r .call) ≡ true
+
+either : (t : Bool) (a b : Option Request) → Fitting a → Fitting b → Fitting (choose t a b)
+either t a b f g = choose-cases Fitting t a b (λ _. f) (λ _. g)
+
+request-fits : (word ns : List ℕ) → ((i : ℕ) → getD ns i 0 ≤ maxNumber) → Fitting (requestOf word ns)
+unfolding requestOf
+request-fits word ns h =
+    let n : (i : ℕ) → leb (getD ns i 0) maxNumber ≡ true = λ i. le-leb (getD ns i 0) maxNumber (h i) in
+    let two = both-and (n 0) (n 1) in
+    either _ _ _ (either _ _ _ (n 0) tt)
+    (either _ _ _ (either _ _ _ (both-and (n 0) (both-and (n 1) (both-and (n 2) (n 3)))) tt)
+    (either _ _ _ (either _ _ _ (n 0) tt)
+    (either _ _ _ (either _ _ _ two tt)
+    (either _ _ _ (either _ _ _ (both-and (n 0) (both-and (n 1) (wait-fits (getD ns 2 0) (getD ns 3 0) (h 3)))) tt)
+    (either _ _ _ (either _ _ _ two tt)
+    (either _ _ _ (either _ _ _ two tt)
+    (either _ _ _ (either _ _ _ refl tt) tt)))))))
+
+pub line-fits : (bs : List ℕ) → Fitting (lineOf bs)
+unfolding lineOf
+line-fits bs =
+    choose-cases Fitting _ _ _ (λ e. request-fits _ _ (numbers-fit (drop 1 (fields bs)) (and-both _ _ e .1))) (λ _. tt)
+
+pub too-long : (bs : List ℕ) → 256 < length bs → lineOf bs ≡ none
+unfolding lineOf
+too-long bs h = if-no _ _ (if-no _ _ (lt-leb (length bs) 256 h))

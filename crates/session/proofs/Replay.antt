@@ -1,39 +1,49 @@
--- What the code writes, feed after feed and at the end, is the session of what it was fed.
-use mathlib.Core.Path.{_≡_, refl, sym, ap, ap₂, subst, _∙_}
-use mathlib.Core.List.{List, [], _∷_, _++_}
+-- What the code writes, feed after feed from a machine that is not started, and at the end, is the session of what it took.
+use mathlib.Core.Path.{_≡_, refl, sym, ap, ap₂, _∙_}
+use mathlib.Core.List.{List, [], _++_}
 use Prim.Native.Nat.{ℕ}
-use lib.ListN.{take}
+use native.Mathlib.Omega.{arith}
+use lib.ListN.{length, take}
 use Rattle.session.specs.declared.Fed.{Fed}
 use Rattle.session.specs.Session.{session}
-use Rattle.session.specs.Parts.{Middle, outset, afterPart, saidToPart, saidAtEnd}
-use Rattle.session.specs.Kept.{FedIs, Ended}
-use Rattle.session.proofs.Whole.{after-append, said-append, session-said}
+use Rattle.session.specs.Kept.{Kept, keeps, outset, Response, afterPart, saidToPart, atEnd}
+use Rattle.session.specs.Feeding.{Writes, FedIs}
+use Rattle.session.proofs.Output.{front}
+use Rattle.session.proofs.Feeding.{after-append, said-append, fed-text}
+use Rattle.session.proofs.Whole.{session-said}
 
--- feeds one after another, each on what the one before left: the bytes taken in all, and the bytes written in all
-pub data Feeds (s : Middle) : List ℕ → List ℕ → Middle → Type 0 where
-  start : Feeds s [] [] s
-  more : {taken written : List ℕ} {s′ : Middle} → Feeds s taken written s′
-      → (r : Fed) (input bs line out : List ℕ) → FedIs r s′ input bs line out
-      → Feeds s (taken ++ take (r .taken) input) (written ++ take (r .written) out) (afterPart s′ (take (r .taken) input))
+-- each feed is handed the bytes, the line and its length that the one before left: what is kept, all that was taken and all that was written
+pub data Feeds : Kept → List ℕ → List ℕ → Type 0 where
+  start : (line : List ℕ) → length line ≡ 256 → Feeds (outset line) [] []
+  more : {k : Kept} {text written : List ℕ} → Feeds k text written
+      → (r : Fed) (input bs line before out : List ℕ) → FedIs r k input bs line before out
+      → Feeds (keeps bs line (r .begun)) (text ++ take (r .taken) input) (written ++ take (r .written) out)
 
-pub record Fed-as (s : Middle) (taken written : List ℕ) (s′ : Middle) : Type 0 where
-  pub said : written ≡ saidToPart s taken
-  pub after : s′ ≡ afterPart s taken
+pub record FedAll (k : Kept) (text written : List ℕ) : Type 0 where
+  pub line : List ℕ
+  pub full : length line ≡ 256
+  pub kept : k ≡ afterPart (outset line) text
+  pub said : written ≡ saidToPart (outset line) text
 
-feeds-said : (s : Middle) {taken written : List ℕ} {s′ : Middle} → Feeds s taken written s′ → Fed-as s taken written s′
+pub feeds-all : {k : Kept} {text written : List ℕ} → Feeds k text written → FedAll k text written
 unfolding saidToPart afterPart
-feeds-said s start = record { said = refl; after = refl }
-feeds-said s (more {taken = t} {written = w} {s′ = s′} f r input bs line out is) =
-    let ih = feeds-said s f in
+feeds-all (start line h) = record { line = line; full = h; kept = refl; said = refl }
+feeds-all (more {k = k} {text = t} {written = w} f r input bs line before out is) =
+    let all = feeds-all f in
+    let part : List ℕ = take (r .taken) input in
     record {
-      said = ap₂ (λ (a b : List ℕ). a ++ b) (ih .said) (is .said ∙ ap (λ (m : Middle). saidToPart m (take (r .taken) input)) (ih .after))
-          ∙ sym (said-append s t (take (r .taken) input));
-      after = ap (λ (m : Middle). afterPart m (take (r .taken) input)) (ih .after) ∙ sym (after-append s t (take (r .taken) input));
+      line = all .line;
+      full = all .full;
+      kept = is .kept ∙ ap (λ (s : Kept). afterPart s part) (all .kept) ∙ sym (after-append (outset (all .line)) t part);
+      said = ap₂ (λ (a b : List ℕ). a ++ b) (all .said) (fed-text is ∙ ap (λ (s : Kept). saidToPart s part) (all .kept))
+          ∙ sym (said-append (outset (all .line)) t part);
     }
 
--- from a machine that is not started: all that is written is the session of all that was taken, however it was cut
-pub code-session : {taken written : List ℕ} {s : Middle} → Feeds outset taken written s → (r : ℕ) (bs out : List ℕ) → Ended r s bs out
-    → written ++ take r out ≡ session taken
-code-session {taken} f r bs out e =
-    let g = feeds-said outset f in
-    ap₂ (λ (a b : List ℕ). a ++ b) (g .said) (e .said ∙ ap saidAtEnd (g .after)) ∙ session-said taken
+pub code-session : {k : Kept} {text written : List ℕ} → Feeds k text written
+    → (r : ℕ) (bs before out : List ℕ) → Writes (atEnd k) 0 r bs before out
+    → written ++ take r out ≡ session text
+code-session {k} {text} f r bs before out e =
+    let all = feeds-all f in
+    let last : take r out ≡ atEnd k .output =
+    ap₂ (λ (n : ℕ) (l : List ℕ). take n l) (e .ends) (e .output) ∙ front 0 (atEnd k .output) before (omega arith) in
+    ap₂ (λ (a b : List ℕ). a ++ b) (all .said) (last ∙ ap (λ (s : Kept). atEnd s .output) (all .kept)) ∙ session-said (all .line) (all .full) text

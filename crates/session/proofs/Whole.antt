@@ -1,28 +1,21 @@
--- However the input is cut into parts, what is said to them, put together, is the session of the whole.
+-- However the input is cut into parts, what is said to them from the outset, put together, is the session of the whole.
 use mathlib.Core.Path.{_≡_, refl, sym, ap, ap₂, subst, _∙_}
 use mathlib.Core.Bool.{true, false}
 use mathlib.Core.List.{List, [], _∷_, _++_, append-assoc, append-nil}
 use mathlib.Core.Logic.{⊎-elim}
-use Prim.Native.Nat.{ℕ, suc}
+use Prim.Native.Nat.{ℕ}
 use native.Mathlib.Omega.{arith}
 use lib.Dec.{eqb}
 use lib.ListN.{length}
-use Rattle.laws.proofs.Choose.{if-yes, if-no, if-ne, tested}
+use Rattle.laws.proofs.Choose.{if-yes, if-no, if-eq, if-ne, tested}
 use Rattle.rules.specs.Machine.{Tables}
+use Rattle.rules.specs.Agreement.{Agrees}
+use Rattle.tables.specs.Layout.{laid}
 use Rattle.line.specs.Line.{ontoFirst}
-use Rattle.session.specs.Session.{lines, Answered, answerTo, outputs, session}
-use Rattle.session.specs.Parts.{Middle, outset, afterByte, saidTo, afterPart, saidToPart, saidAtEnd, saidInParts}
-
--- a part after a part
-pub after-append : (s : Middle) (a b : List ℕ) → afterPart s (a ++ b) ≡ afterPart (afterPart s a) b
-unfolding afterPart
-after-append s [] b = refl
-after-append s (x ∷ a) b = after-append (afterByte s x) a b
-
-pub said-append : (s : Middle) (a b : List ℕ) → saidToPart s (a ++ b) ≡ saidToPart s a ++ saidToPart (afterPart s a) b
-unfolding afterPart saidToPart
-said-append s [] b = refl
-said-append s (x ∷ a) b = ap (λ (l : List ℕ). saidTo s x ++ l) (said-append (afterByte s x) a b) ∙ sym (append-assoc (saidTo s x) _ _)
+use Rattle.session.specs.Session.{lines, answerTo, outputs, session}
+use Rattle.session.specs.Kept.{Kept, keeps, outset, Response, endLine, lengthen, afterByte, saidTo, afterPart, saidToPart, atEnd, saidInParts, Reached}
+use Rattle.session.proofs.Feeding.{after-append, said-append}
+use Rattle.session.proofs.Standing.{Stands, outset-stands, end-answers, stands-newline, stands-other, none-begun, none-kept}
 
 -- no newline among the bytes of a line
 abbrev pub Plain : List ℕ → Type 0
@@ -45,84 +38,90 @@ unfolding lines
 lines-end b [] p = if-no _ _ (p .0)
 lines-end b (x ∷ begun) p = if-no _ _ (p .0) ∙ ap (ontoFirst b) (lines-end x begun (p .1))
 
-at-end : (t : Tables) (begun : List ℕ) → Plain begun → outputs t (lines begun) ≡ saidAtEnd (record { tables = t; begun = begun })
-unfolding saidAtEnd outputs lines
-at-end t [] p = sym (if-yes _ _ refl)
-at-end t (b ∷ begun) p =
-    ap (outputs t) (lines-end b begun p) ∙ append-nil (answerTo t (b ∷ begun) .output)
-    ∙ sym (if-ne (suc (length begun)) 0 _ _ (λ e. omega arith))
+at-end : (k : Kept) (t : Tables) (begun : List ℕ) → Stands k t begun → Plain begun → atEnd k .output ≡ outputs t (lines begun)
+unfolding atEnd outputs lines
+at-end k t [] g p = ap (λ (s : Response). s .output) (if-eq (k .begun) 0 _ _ (none-kept g refl))
+at-end k t (b ∷ begun) g p =
+    ap (λ (s : Response). s .output) (if-ne (k .begun) 0 _ _ (λ e. omega (arith, ap length (none-begun g e))) ∙ end-answers g)
+    ∙ sym (ap (outputs t) (lines-end b begun p) ∙ append-nil (answerTo t (b ∷ begun) .output))
 
 -- what is said to the bytes to come, and at their end
-abbrev pub saidToRest : Middle → List ℕ → List ℕ
-saidToRest s rest = saidToPart s rest ++ saidAtEnd (afterPart s rest)
+abbrev pub saidToRest : Kept → List ℕ → List ℕ
+saidToRest k rest = saidToPart k rest ++ atEnd (afterPart k rest) .output
 
-module _ (s : Middle) (b : ℕ) (bs : List ℕ) where
-  answer : Answered
-  answer = answerTo (s .tables) (s .begun)
-
-  -- after a newline, and after any other byte
-  ended : Middle
-  ended = record { tables = answer .tables; begun = [] }
-
-  longer : Middle
-  longer = record { tables = s .tables; begun = s .begun ++ b ∷ [] }
-
-  first-byte : (out : List ℕ) (s′ : Middle) → saidTo s b ≡ out → afterByte s b ≡ s′ → saidToRest s (b ∷ bs) ≡ out ++ saidToRest s′ bs
+module _ (k : Kept) (b : ℕ) (bs : List ℕ) where
+  first-byte : (out : List ℕ) (k′ : Kept) → saidTo k b ≡ out → afterByte k b ≡ k′ → saidToRest k (b ∷ bs) ≡ out ++ saidToRest k′ bs
   unfolding saidToPart afterPart
-  first-byte out s′ e f =
-      append-assoc (saidTo s b) (saidToPart (afterByte s b) bs) (saidAtEnd (afterPart (afterByte s b) bs))
-      ∙ ap₂ (λ (l : List ℕ) (m : Middle). l ++ saidToRest m bs) e f
+  first-byte out k′ e f =
+      append-assoc (saidTo k b) (saidToPart (afterByte k b) bs) (atEnd (afterPart (afterByte k b) bs) .output)
+      ∙ ap₂ (λ (l : List ℕ) (m : Kept). l ++ saidToRest m bs) e f
 
-  newline : Plain (s .begun) → eqb b 10 ≡ true → saidToRest ended bs ≡ outputs (ended .tables) (lines bs)
-      → saidToRest s (b ∷ bs) ≡ outputs (s .tables) (lines (s .begun ++ b ∷ bs))
-  unfolding saidTo afterByte outputs answer ended
-  newline p e ih =
-      first-byte (answer .output) ended (if-yes _ _ e) (if-yes _ _ e)
-      ∙ ap (λ (l : List ℕ). answer .output ++ l) ih
-      ∙ sym (ap (outputs (s .tables)) (lines-newline (s .begun) bs b p e))
+  module _ (t : Tables) (begun : List ℕ) (g : Stands k t begun) where
+    newline : Plain begun → eqb b 10 ≡ true
+        → saidToRest (keeps (endLine k .bytes) (k .line) 0) bs ≡ outputs (answerTo t begun .tables) (lines bs)
+        → saidToRest k (b ∷ bs) ≡ outputs t (lines (begun ++ b ∷ bs))
+    unfolding saidTo afterByte outputs
+    newline p e ih =
+        first-byte (endLine k .output) (keeps (endLine k .bytes) (k .line) 0) (if-yes _ _ e) (if-yes _ _ e)
+        ∙ ap₂ (λ (l m : List ℕ). l ++ m) (ap (λ (s : Response). s .output) (end-answers g)) ih
+        ∙ sym (ap (outputs t) (lines-newline begun bs b p e))
 
-  other : eqb b 10 ≡ false → saidToRest longer bs ≡ outputs (s .tables) (lines (longer .begun ++ bs))
-      → saidToRest s (b ∷ bs) ≡ outputs (s .tables) (lines (s .begun ++ b ∷ bs))
-  unfolding saidTo afterByte longer
-  other e ih =
-      first-byte [] longer (if-no _ _ e) (if-no _ _ e)
-      ∙ ih ∙ ap (λ (l : List ℕ). outputs (s .tables) (lines l)) (append-assoc (s .begun) (b ∷ []) bs)
+    other : eqb b 10 ≡ false → saidToRest (lengthen k b) bs ≡ outputs t (lines ((begun ++ b ∷ []) ++ bs))
+        → saidToRest k (b ∷ bs) ≡ outputs t (lines (begun ++ b ∷ bs))
+    unfolding saidTo afterByte
+    other e ih =
+        first-byte [] (lengthen k b) (if-no _ _ e) (if-no _ _ e)
+        ∙ ih ∙ ap (λ (l : List ℕ). outputs t (lines l)) (append-assoc begun (b ∷ []) bs)
 
 -- the rest of the work is the session's output on the line that has begun and the bytes to come
-pub said-whole : (s : Middle) (rest : List ℕ) → Plain (s .begun) → saidToRest s rest ≡ outputs (s .tables) (lines (s .begun ++ rest))
-unfolding saidToPart afterPart ended longer
-said-whole s [] p = sym (ap (λ (l : List ℕ). outputs (s .tables) (lines l)) (append-nil (s .begun)) ∙ at-end (s .tables) (s .begun) p)
-said-whole s (b ∷ bs) p =
-    ⊎-elim (λ (e : eqb b 10 ≡ true). newline s b bs p e (said-whole (ended s b bs) bs tt))
-    (λ (e : eqb b 10 ≡ false). other s b bs e (said-whole (longer s b bs) bs (plain-more (s .begun) b p e)))
+pub said-whole : (k : Kept) (t : Tables) (begun rest : List ℕ) → Stands k t begun → Plain begun
+    → saidToRest k rest ≡ outputs t (lines (begun ++ rest))
+unfolding saidToPart afterPart
+said-whole k t begun [] g p = at-end k t begun g p ∙ sym (ap (λ (l : List ℕ). outputs t (lines l)) (append-nil begun))
+said-whole k t begun (b ∷ bs) g p =
+    ⊎-elim (λ (e : eqb b 10 ≡ true). newline k b bs t begun g p e (said-whole (keeps (endLine k .bytes) (k .line) 0) (answerTo t begun .tables) [] bs (stands-newline g) tt))
+    (λ (e : eqb b 10 ≡ false). other k b bs t begun g e (said-whole (lengthen k b) t (begun ++ b ∷ []) bs (stands-other g b) (plain-more begun b p e)))
     (tested (eqb b 10))
 
-plain-after : (s : Middle) (bs : List ℕ) → Plain (s .begun) → Plain (afterPart s bs .begun)
-unfolding afterPart afterByte
-plain-after s [] p = p
-plain-after s (b ∷ bs) p =
-    plain-after (afterByte s b) bs (⊎-elim (λ (e : eqb b 10 ≡ true). subst (λ (m : Middle). Plain (m .begun)) (sym (if-yes _ _ e)) tt)
-    (λ (e : eqb b 10 ≡ false). subst (λ (m : Middle). Plain (m .begun)) (sym (if-no _ _ e)) (plain-more (s .begun) b p e))
-    (tested (eqb b 10)))
+-- what is said to the bytes as they come, and at their end
+pub session-said : (line : List ℕ) → length line ≡ 256 → (input : List ℕ) → saidToRest (outset line) input ≡ session input
+unfolding session
+session-said line h input = said-whole (outset line) _ [] input (outset-stands line h) tt
 
--- parts put together
+-- ---- parts put together
+
 abbrev pub joined : List (List ℕ) → List ℕ
 joined [] = []
 joined (p ∷ ps) = p ++ joined ps
 
-parts-whole : (s : Middle) (ps : List (List ℕ)) → saidInParts s ps ≡ saidToRest s (joined ps)
+parts-whole : (k : Kept) (ps : List (List ℕ)) → saidInParts k ps ≡ saidToRest k (joined ps)
 unfolding saidInParts saidToPart afterPart
-parts-whole s [] = refl
-parts-whole s (p ∷ ps) =
-    ap (λ (l : List ℕ). saidToPart s p ++ l) (parts-whole (afterPart s p) ps)
-    ∙ sym (append-assoc (saidToPart s p) _ _)
-    ∙ ap₂ (λ (l : List ℕ) (m : Middle). l ++ saidAtEnd m) (sym (said-append s p (joined ps))) (sym (after-append s p (joined ps)))
-
--- what is said to the bytes as they come, and at their end
-pub session-said : (input : List ℕ) → saidToRest outset input ≡ session input
-unfolding session
-session-said input = said-whole outset input tt
+parts-whole k [] = refl
+parts-whole k (p ∷ ps) =
+    ap (λ (l : List ℕ). saidToPart k p ++ l) (parts-whole (afterPart k p) ps)
+    ∙ sym (append-assoc (saidToPart k p) _ _)
+    ∙ ap₂ (λ (l : List ℕ) (m : Kept). l ++ atEnd m .output) (sym (said-append k p (joined ps))) (sym (after-append k p (joined ps)))
 
 -- for every way of cutting the input
-pub session-in-parts : (parts : List (List ℕ)) → saidInParts outset parts ≡ session (joined parts)
-session-in-parts parts = parts-whole outset parts ∙ session-said (joined parts)
+pub session-in-parts : (line : List ℕ) → length line ≡ 256 → (parts : List (List ℕ)) → saidInParts (outset line) parts ≡ session (joined parts)
+session-in-parts line h parts = parts-whole (outset line) parts ∙ session-said line h (joined parts)
+
+-- ---- the tables agree before every line
+
+-- what is kept stands for some tables and some bytes of a line
+pub record Standing (k : Kept) : Type 0 where
+  pub tables : Tables
+  pub begun : List ℕ
+  pub stands : Stands k tables begun
+
+stands-after : (k : Kept) (t : Tables) (begun text : List ℕ) → Stands k t begun → Standing (afterPart k text)
+unfolding afterPart afterByte
+stands-after k t begun [] g = record { tables = t; begun = begun; stands = g }
+stands-after k t begun (b ∷ bs) g =
+    ⊎-elim (λ (e : eqb b 10 ≡ true). subst (λ (m : Kept). Standing (afterPart m bs)) (sym (if-yes _ _ e)) (stands-after (keeps (endLine k .bytes) (k .line) 0) (answerTo t begun .tables) [] bs (stands-newline g)))
+    (λ (e : eqb b 10 ≡ false). subst (λ (m : Kept). Standing (afterPart m bs)) (sym (if-no _ _ e)) (stands-after (lengthen k b) t (begun ++ b ∷ []) bs (stands-other g b)))
+    (tested (eqb b 10))
+
+pub reached-stands : (k : Kept) → Reached k → Standing k
+reached-stands k r =
+    subst Standing (sym (r .kept)) (stands-after (outset (r .line)) _ [] (r .text) (outset-stands (r .line) (r .full)))

@@ -1,58 +1,90 @@
--- What the code keeps between two parts, and what feeding it one does.
+-- What the code keeps of a session between two bytes of its input, and what it says to each: over lent bytes of any length and content.
 use mathlib.Core.Path.{_≡_}
-use mathlib.Core.List.{List}
-use mathlib.Core.Logic.{_⊎_}
-use Prim.Native.Nat.{ℕ, _+_, _≤_, _<_}
-use lib.ListN.{length, take}
-use Rattle.rules.specs.Agreement.{Agrees}
+use mathlib.Core.List.{List, [], _∷_, _++_}
+use mathlib.Core.Option.{Option, none, some}
+use Prim.Native.Nat.{ℕ, suc, _+_, _-_}
+use lib.Dec.{leb, ltb, eqb}
+use lib.ListN.{length, take, set}
+use Rattle.laws.specs.Choose.{choose}
+use Rattle.rules.specs.Machine.{unstarted}
+use Rattle.rules.specs.Runs.{Request}
 use Rattle.tables.specs.Layout.{laid}
-use Rattle.session.specs.declared.Fed.{Fed}
-use Rattle.session.specs.declared.Stepped.{Stepped}
-use Rattle.line.specs.Print.{spliced}
-use Rattle.session.specs.Session.{Answered}
-use Rattle.session.specs.Parts.{Middle, afterByte, saidTo, afterPart, saidToPart, saidAtEnd, tablesAtEnd}
+use Rattle.manager.specs.Entry.{replyTo}
+use Rattle.line.specs.Line.{maxLine, lineOf}
+use Rattle.line.specs.Print.{answerLine, badLine}
 
--- the bytes are those of tables that agree; of the line that has begun the first n bytes are kept, or that it is longer than 256
-pub record Between (bs line : List ℕ) (n : ℕ) (s : Middle) : Type 0 where
-  pub agrees : Agrees (s .tables)
-  pub tables : bs ≡ laid (s .tables)
-  pub begun : n ≤ 256 → s .begun ≡ take n line
-  pub long : 256 < n → 256 < length (s .begun)
+-- the lent bytes, the 256 bytes lent for a line, and how many of them the line that has begun fills: more than 256 where it is longer
+pub record Kept : Type 0 where
+  pub bytes : List ℕ
+  pub line : List ℕ
+  pub begun : ℕ
 
--- a line's bytes so far: the first n are kept, or that they are more than 256
-pub record Begun (bs line : List ℕ) (n : ℕ) : Type 0 where
-  pub few : n ≤ 256 → bs ≡ take n line
-  pub many : 256 < n → 256 < length bs
+abbrev pub keeps : List ℕ → List ℕ → ℕ → Kept
+keeps bs line n = record { bytes = bs; line = line; begun = n }
 
--- a line's answer stands in the output from `at` to `end`, and the bytes are those of the tables after it, which agree
-pub record Said (a : Answered) (at end : ℕ) (bs before out : List ℕ) : Type 0 where
-  pub agrees : Agrees (a .tables)
-  pub tables : bs ≡ laid (a .tables)
-  pub ends : end ≡ at + length (a .output)
-  pub output : out ≡ spliced at (a .output) before
+-- a machine not yet started, and no line
+abbrev pub outset : List ℕ → Kept
+outset line = keeps (laid unstarted) line 0
 
--- a byte is taken: what is said to it stands in the output at its place
-pub record Took (r : Stepped) (s : Middle) (b at : ℕ) (bs line before out : List ℕ) : Type 0 where
-  pub between : Between bs line (r .begun) (afterByte s b)
-  pub ends : r .at ≡ at + length (saidTo s b)
-  pub output : out ≡ spliced at (saidTo s b) before
+-- ---- a line
 
--- whatever the lent bytes are: no more is taken or written than there is, and with room for an answer something is taken
-pub record Moved (r : Fed) (input out : List ℕ) : Type 0 where
-  pub taken : r .taken ≤ length input
-  pub written : r .written ≤ length out
-  pub some : 33 ≤ length out → 1 ≤ length input → 1 ≤ r .taken
+-- what is said to it, and the lent bytes after it
+pub record Response : Type 0 where
+  pub bytes : List ℕ
+  pub output : List ℕ
 
--- the bytes taken are fed, what is said to them is written, and either all are taken or the output is full
-pub record FedIs (r : Fed) (s : Middle) (input bs line out : List ℕ) : Type 0 where
-  pub between : Between bs line (r .begun) (afterPart s (take (r .taken) input))
-  pub written : r .written ≤ length out
-  pub said : take (r .written) out ≡ saidToPart s (take (r .taken) input)
-  pub taken : r .taken ≤ length input
-  pub done : (r .taken ≡ length input) ⊎ (length out < r .written + 33)
+-- a bad line changes nothing, and another gets the entry point's reply
+abbrev pub responseTo : List ℕ → Option Request → Response
+responseTo bs none = record { bytes = bs; output = badLine }
+responseTo bs (some r) = let o = replyTo bs (r .call) (r .priorities) in record { bytes = o .bytes; output = answerLine (o .answer) }
 
--- the input has ended: what is said at its end is written, and the bytes are those of the tables after it
-pub record Ended (r : ℕ) (s : Middle) (bs out : List ℕ) : Type 0 where
-  pub agrees : Agrees (tablesAtEnd s)
-  pub tables : bs ≡ laid (tablesAtEnd s)
-  pub said : take r out ≡ saidAtEnd s
+unfoldable pub respond : List ℕ → List ℕ → Response
+respond bs line = responseTo bs (lineOf line)
+
+-- the line that has begun ends: longer than 256 bytes is bad
+unfoldable pub endLine : Kept → Response
+endLine k = choose (leb (k .begun) maxLine) (respond (k .bytes) (take (k .begun) (k .line))) (responseTo (k .bytes) none)
+
+-- or has one byte more: beyond 256 only its being longer is kept
+unfoldable pub lengthen : Kept → ℕ → Kept
+lengthen k b =
+    choose (ltb (k .begun) maxLine) (keeps (k .bytes) (set (k .line) (k .begun) b) (k .begun + 1))
+    (keeps (k .bytes) (k .line) (maxLine + 1))
+
+-- ---- bytes: a newline ends the line
+
+unfoldable pub afterByte : Kept → ℕ → Kept
+afterByte k b = choose (eqb b 10) (keeps (endLine k .bytes) (k .line) 0) (lengthen k b)
+
+unfoldable pub saidTo : Kept → ℕ → List ℕ
+saidTo k b = choose (eqb b 10) (endLine k .output) []
+
+unfoldable pub afterPart : Kept → List ℕ → Kept
+afterPart k [] = k
+afterPart k (b ∷ bs) = afterPart (afterByte k b) bs
+
+unfoldable pub saidToPart : Kept → List ℕ → List ℕ
+saidToPart k [] = []
+saidToPart k (b ∷ bs) = saidTo k b ++ saidToPart (afterByte k b) bs
+
+-- at the end of the input a line that has begun counts
+unfoldable pub atEnd : Kept → Response
+atEnd k = choose (eqb (k .begun) 0) (record { bytes = k .bytes; output = [] }) (endLine k)
+
+-- how many bytes of a part are taken: one more wherever the output has room for an answer, which is at most 33 bytes
+unfoldable pub takenOf : Kept → List ℕ → ℕ → ℕ
+takenOf k [] room = 0
+takenOf k (b ∷ bs) room = choose (leb 33 room) (suc (takenOf (afterByte k b) bs (room - length (saidTo k b)))) 0
+
+-- ---- the input in parts, and its end
+
+unfoldable pub saidInParts : Kept → List (List ℕ) → List ℕ
+saidInParts k [] = atEnd k .output
+saidInParts k (p ∷ ps) = saidToPart k p ++ saidInParts (afterPart k p) ps
+
+-- what is kept after some text from the outset, with what stood in the 256 bytes of a line then
+pub record Reached (k : Kept) : Type 0 where
+  pub line : List ℕ
+  pub full : length line ≡ 256
+  pub text : List ℕ
+  pub kept : k ≡ afterPart (outset line) text

@@ -1,3 +1,3 @@
 pub mod Session
-pub mod Parts
 pub mod Kept
+pub mod Feeding

@@ -3,16 +3,12 @@ use line::Line;
 use rules::Answer;
 use rules::Call;
 ghost use mathlib.Core.Path.{_≡_};
-ghost use mathlib.Core.List.{List, _++_, _∷_, []};
-ghost use Prim.Native.Nat.{ℕ, _+_, _-_, _≤_, _<_};
+ghost use mathlib.Core.List.{List};
+ghost use Prim.Native.Nat.{ℕ, _+_, _-_, _≤_};
 ghost use lib.ListN.{length, take, drop};
-ghost use Rattle.rules.specs.Machine.{Tables};
-ghost use Rattle.rules.specs.Agreement.{Agrees};
-ghost use Rattle.tables.specs.Layout.{laid};
 ghost use Rattle.manager.specs.Entry.{Replied, replyTo};
-ghost use Rattle.session.specs.Session.{answerTo};
-ghost use Rattle.session.specs.Parts.{Middle};
-ghost use Rattle.session.specs.Kept.{Between, Begun, Said, Took, Moved, FedIs, Ended};
+ghost use Rattle.session.specs.Kept.{keeps, respond, endLine, lengthen, atEnd};
+ghost use Rattle.session.specs.Feeding.{Writes, Took, FedIs};
 
 // What feeding a part did: how many of its bytes were taken, how many of the output written, and how long the line is that has begun (257 where it is longer than 256).
 pub struct Fed {
@@ -24,7 +20,7 @@ pub struct Fed {
 // One byte more of a line; beyond 256 only its being too long is kept.
 fn lengthened(line: &mut [u8], begun: usize, b: u8) -> usize
     requires { ⌜ length (now line) ≡ 256 ⌝ }
-    ensures { λ r. ⌜ ((bs : List ℕ) → Begun bs (now (line .entry)) begun → Begun (bs ++ b ∷ []) (now (line .exit)) r) ⌝ }
+    ensures { λ r. ⌜ ((bs : List ℕ) → keeps bs (now (line .exit)) r ≡ lengthen (keeps bs (now (line .entry)) begun) b) ⌝ }
 {
     if begun < 256 {
         line[begun] = b;
@@ -56,7 +52,7 @@ fn call_with(m: &mut [u8], call: Call, numbers: &[u32; 128], count: usize) -> An
 // Answers a line at `at` of the output, and returns the place behind the answer.
 fn answer_line(m: &mut [u8], line: &[u8], out: &mut [u8], at: usize) -> usize
     requires { ⌜ at + 33 ≤ length (now out) ⌝ }
-    ensures { λ r. ⌜ (r ≤ length (now (out .entry))) × ((t : Tables) → Agrees t → now (m .entry) ≡ laid t → Said (answerTo t (now (line .entry))) at r (now (m .exit)) (now (out .entry)) (now (out .exit))) ⌝ }
+    ensures { λ r. ⌜ Writes (respond (now (m .entry)) (now (line .entry))) at r (now (m .exit)) (now (out .entry)) (now (out .exit)) ⌝ }
 {
     let mut numbers = [0u32; 128];
     let scanned = line::scan(line, &mut numbers);
@@ -72,7 +68,7 @@ fn answer_line(m: &mut [u8], line: &[u8], out: &mut [u8], at: usize) -> usize
 // A line has ended: too long is bad.
 fn end_line(m: &mut [u8], line: &[u8], begun: usize, out: &mut [u8], at: usize) -> usize
     requires { ⌜ (length (now line) ≡ 256) × (at + 33 ≤ length (now out)) ⌝ }
-    ensures { λ r. ⌜ (r ≤ length (now (out .entry))) × ((t : Tables) (bs : List ℕ) → Agrees t → now (m .entry) ≡ laid t → Begun bs (now (line .entry)) begun → Said (answerTo t bs) at r (now (m .exit)) (now (out .entry)) (now (out .exit))) ⌝ }
+    ensures { λ r. ⌜ Writes (endLine (keeps (now (m .entry)) (now (line .entry)) begun)) at r (now (m .exit)) (now (out .entry)) (now (out .exit)) ⌝ }
 {
     if 256 < begun {
         return at + line::print_bad(&mut out[at..]);
@@ -96,7 +92,8 @@ fn take_byte(
     at: usize,
 ) -> Stepped
     requires { ⌜ (length (now line) ≡ 256) × (at + 33 ≤ length (now out)) ⌝ }
-    ensures { λ r. ⌜ (r .at ≤ length (now (out .entry))) × ((s : Middle) → Between (now (m .entry)) (now (line .entry)) begun s → Took r s b at (now (m .exit)) (now (line .exit)) (now (out .entry)) (now (out .exit))) ⌝ }
+    ensures { λ r. ⌜ Took r (keeps (now (m .entry)) (now (line .entry)) begun) b at
+        (now (m .exit)) (now (line .exit)) (now (out .entry)) (now (out .exit)) ⌝ }
 {
     if b == 10 {
         let end = end_line(m, &line[..], begun, out, at);
@@ -109,7 +106,8 @@ fn take_byte(
 // As `feed`, on a line's 256 bytes lent as a slice.
 fn feed_part(m: &mut [u8], line: &mut [u8], begun: usize, input: &[u8], out: &mut [u8]) -> Fed
     requires { ⌜ length (now line) ≡ 256 ⌝ }
-    ensures { λ r. ⌜ Moved r (now (input .entry)) (now (out .entry)) × ((s : Middle) → Between (now (m .entry)) (now (line .entry)) begun s → FedIs r s (now (input .entry)) (now (m .exit)) (now (line .exit)) (now (out .exit))) ⌝ }
+    ensures { λ r. ⌜ FedIs r (keeps (now (m .entry)) (now (line .entry)) begun) (now (input .entry))
+        (now (m .exit)) (now (line .exit)) (now (out .entry)) (now (out .exit)) ⌝ }
 {
     let mut taken = 0;
     let mut at = 0;
@@ -136,7 +134,8 @@ fn feed_part(m: &mut [u8], line: &mut [u8], begun: usize, input: &[u8], out: &mu
 
 // Feeds a part of the input: until it is used up, or the output has no room for another answer.
 pub fn feed(m: &mut [u8], line: &mut [u8; 256], begun: usize, input: &[u8], out: &mut [u8]) -> Fed
-    ensures { λ r. ⌜ Moved r (now (input .entry)) (now (out .entry)) × ((s : Middle) → Between (now (m .entry)) (now (line .entry)) begun s → FedIs r s (now (input .entry)) (now (m .exit)) (now (line .exit)) (now (out .exit))) ⌝ }
+    ensures { λ r. ⌜ FedIs r (keeps (now (m .entry)) (now (line .entry)) begun) (now (input .entry))
+        (now (m .exit)) (now (line .exit)) (now (out .entry)) (now (out .exit)) ⌝ }
 {
     feed_part(m, line, begun, input, out)
 }
@@ -144,7 +143,7 @@ pub fn feed(m: &mut [u8], line: &mut [u8; 256], begun: usize, input: &[u8], out:
 // As `finish`, on a line's 256 bytes and an output lent as slices.
 fn end_input(m: &mut [u8], line: &[u8], begun: usize, out: &mut [u8]) -> usize
     requires { ⌜ (length (now line) ≡ 256) × (33 ≤ length (now out)) ⌝ }
-    ensures { λ r. ⌜ (r ≤ length (now (out .entry))) × ((s : Middle) → Between (now (m .entry)) (now (line .entry)) begun s → Ended r s (now (m .exit)) (now (out .exit))) ⌝ }
+    ensures { λ r. ⌜ Writes (atEnd (keeps (now (m .entry)) (now (line .entry)) begun)) 0 r (now (m .exit)) (now (out .entry)) (now (out .exit)) ⌝ }
 {
     if begun == 0 {
         return 0;
@@ -154,7 +153,7 @@ fn end_input(m: &mut [u8], line: &[u8], begun: usize, out: &mut [u8]) -> usize
 
 // The input has ended: a line that has begun counts. Returns the length of what is said.
 pub fn finish(m: &mut [u8], line: &[u8; 256], begun: usize, out: &mut [u8; 33]) -> usize
-    ensures { λ r. ⌜ (r ≤ 33) × ((s : Middle) → Between (now (m .entry)) (now (line .entry)) begun s → Ended r s (now (m .exit)) (now (out .exit))) ⌝ }
+    ensures { λ r. ⌜ Writes (atEnd (keeps (now (m .entry)) (now (line .entry)) begun)) 0 r (now (m .exit)) (now (out .entry)) (now (out .exit)) ⌝ }
 {
     end_input(m, line, begun, out)
 }

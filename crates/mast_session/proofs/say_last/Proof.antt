@@ -1,5 +1,5 @@
--- `mast_session::say_last` is safe: the first n of 33 bytes are n.
-use mathlib.Core.Path.{sym}
+-- `mast_session::say_last` meets its contract: the first n of 33 bytes are n.
+use mathlib.Core.Path.{sym, _∙_}
 use native.Mathlib.Omega.{arith}
 use lib.Seq.{length-take-le}
 use borrow.Author.Needs.{needs}
@@ -13,7 +13,9 @@ say-requires : tie.Need-say-requires
 say-requires c κs = search needs
 
 returns : tie.Need-returns
-returns c = search needs
+returns c =
+    let all = c .before .before .all in
+    c .say .ensures ∙ length-take-le (c .before .before .before .args .n) _ (omega arith)
 
 pub say-last-spec : {M : Type 1} → statement M
 say-last-spec = tie.close (tie.spec slice-aggregate-say say-requires returns)

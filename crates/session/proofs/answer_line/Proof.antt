@@ -7,12 +7,11 @@ use native.Mathlib.Omega.{arith}
 use lib.ListN.{length}
 use denote.Ref.{now}
 use borrow.Author.Needs.{needs}
-use Rattle.words.proofs.WordsInBytes.{Bytes}
 use Rattle.line.specs.declared.Line.{Line}
 use Rattle.line.specs.declared.Line.the-variants.{Request as Asked}
 use Rattle.line.specs.Line.{lineOf, scanned}
 use Rattle.line.specs.Print.{answerLine, badLine}
-use Rattle.session.proofs.Output.{said-bad, said-asked, written-at, written-fits}
+use Rattle.session.proofs.Output.{respond-is, writes-bad, writes-asked, written-at, written-fits}
 use Rattle.session.proofs.answer_line.Statement.{statement}
 use Rattle.session.proofs.answer_line.Tie as tie
 
@@ -72,15 +71,12 @@ same-length c = search needs
 returns : tie.Need-returns
 returns c =
     let start = c .before .before .before .before .before .before .before .before .before .before .before in
-    let bytes : Bytes (now (start .args .m)) = λ k. c .before .before .before .before .before .before .before .before .before .before .slice-known .given k .fits in
     let scan = c .before .before .before .before .before .before .scan in
     let put = c .before .before .print-bad in
-    let bad : lineOf (now (start .args .line)) ≡ none = scan .ensures ∙ ap (λ (l : Line). scanned l (scan .last .1 .0)) (c .before .before .before .before .enum-told .given .1) in (
-      omega arith,
-      λ t a e. said-bad t a (now (start .args .m)) e bytes (now (start .args .line)) (start .args .at) (now (start .args .out)) _ _ bad
-          (ap (λ (n : ℕ). start .args .at + n) (put .ensures .0))
-          (written-at (start .args .at) badLine (now (start .args .out)) _ _ 4 refl refl (put .ensures .1)),
-    )
+    let bad : lineOf (now (start .args .line)) ≡ none = scan .ensures ∙ ap (λ (l : Line). scanned l (scan .last .1 .0)) (c .before .before .before .before .enum-told .given .1) in
+    writes-bad (now (start .args .m)) (respond-is (now (start .args .m)) (now (start .args .line)) bad)
+    (ap (λ (n : ℕ). start .args .at + n) (put .ensures .0))
+    (written-at (start .args .at) badLine (now (start .args .out)) _ _ 4 refl refl (put .ensures .1))
 
 same-length-2 : tie.Need-same-length-2
 same-length-2 c = search needs
@@ -91,18 +87,15 @@ same-length-3 c = search needs
 returns-2 : tie.Need-returns-2
 returns-2 c =
     let start = c .before .before .before .before .before .before .before .before .before .before .before .before .before .before .before .before .before in
-    let bytes : Bytes (now (start .args .m)) = λ k. c .before .before .before .before .before .before .before .before .before .before .before .before .before .before .before .before .slice-known .given k .fits in
     let scan = c .before .before .before .before .before .before .before .before .before .before .before .before .scan in
     let given = c .before .before .before .before .before .before .before .before .before .before .scanned .given in
     let called = c .before .before .before .before .before .before .call-with in
     let put = c .before .before .print-answer in
     let line : List ℕ = now (start .args .line) in
-    let asked : lineOf line ≡ scanned (Asked (given .0 .0) (given .0 .1 .0)) (scan .last .1 .0) = scan .ensures ∙ ap (λ (l : Line). scanned l (scan .last .1 .0)) (given .1) in (
-      within c,
-      λ t a e. said-asked t a (now (start .args .m)) e bytes line (start .args .at) (now (start .args .out)) _ _ _ _ _ _ asked (called .ensures)
-          (ap (λ (n : ℕ). start .args .at + n) (put .ensures .0))
-          (written-at (start .args .at) (answerLine (called .result)) (now (start .args .out)) _ _ _ refl (put .ensures .0) (put .ensures .1)),
-    )
+    let asked : lineOf line ≡ scanned (Asked (given .0 .0) (given .0 .1 .0)) (scan .last .1 .0) = scan .ensures ∙ ap (λ (l : Line). scanned l (scan .last .1 .0)) (given .1) in
+    writes-asked (now (start .args .m)) line _ _ _ _ asked (called .ensures)
+    (ap (λ (n : ℕ). start .args .at + n) (put .ensures .0))
+    (written-at (start .args .at) (answerLine (called .result)) (now (start .args .out)) _ _ _ refl (put .ensures .0) (put .ensures .1))
 
 pub answer-line-spec : {M : Type 1} → statement M
 answer-line-spec = tie.close (tie.spec scan-requires enum-told sub-print-bad part-print-bad-start part-print-bad-end print-bad-requires add-result enum-known-scanned call-with-requires sub-print-answer part-print-answer-start part-print-answer-end print-answer-requires add-result-2 same-length returns same-length-2 same-length-3 returns-2)

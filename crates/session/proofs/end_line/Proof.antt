@@ -5,9 +5,9 @@ use native.Mathlib.Omega.{arith}
 use denote.Ref.{now}
 use lib.Seq.{length-take-le}
 use borrow.Author.Needs.{needs}
-use Rattle.words.proofs.WordsInBytes.{Bytes}
 use Rattle.line.specs.Print.{badLine}
-use Rattle.session.proofs.Output.{too-long, said-bad, said-same, written-at}
+use Rattle.session.specs.Kept.{Kept, keeps}
+use Rattle.session.proofs.Output.{end-few, end-many, writes-bad, writes-same, written-at}
 use Rattle.session.proofs.end_line.Statement.{statement}
 use Rattle.session.proofs.end_line.Tie as tie
 
@@ -32,13 +32,11 @@ same-length c = search needs
 returns : tie.Need-returns
 returns c =
     let start = c .before .before .before .before .before .before .before .before in
-    let bytes : Bytes (now (start .args .m)) = λ k. c .before .before .before .before .before .before .before .slice-known .given k .fits in
-    let put = c .before .before .print-bad in (
-      omega arith,
-      λ t bs a e g. said-bad t a (now (start .args .m)) e bytes bs (start .args .at) (now (start .args .out)) _ _ (too-long bs (g .many (c .before .before .before .before .if1 .taken)))
-          (ap (λ (n : ℕ). start .args .at + n) (put .ensures .0))
-          (written-at (start .args .at) badLine (now (start .args .out)) _ _ 4 refl refl (put .ensures .1)),
-    )
+    let kept : Kept = keeps (now (start .args .m)) (now (start .args .line)) (start .args .begun) in
+    let put = c .before .before .print-bad in
+    writes-bad (now (start .args .m)) (end-many kept (c .before .before .before .before .if1 .taken))
+    (ap (λ (n : ℕ). start .args .at + n) (put .ensures .0))
+    (written-at (start .args .at) badLine (now (start .args .out)) _ _ 4 refl refl (put .ensures .1))
 
 slice-aggregate-answer-line : tie.Need-slice-aggregate-answer-line
 slice-aggregate-answer-line c =
@@ -56,10 +54,9 @@ same-length-3 c = search needs
 
 returns-2 : tie.Need-returns-2
 returns-2 c =
-    let answered = c .before .before .before .before .answer-line .ensures in (
-      answered .0,
-      λ t bs a e g. said-same t (sym (g .few (c .before .before .before .before .before .before .before .before .if1 .left))) (answered .1 t a e),
-    )
+    let start = c .before .before .before .before .before .before .before .before .before .before .before .before in
+    let kept : Kept = keeps (now (start .args .m)) (now (start .args .line)) (start .args .begun) in
+    writes-same (sym (end-few kept (c .before .before .before .before .before .before .before .before .if1 .left))) (c .before .before .before .before .answer-line .ensures)
 
 pub end-line-spec : {M : Type 1} → statement M
 end-line-spec = tie.close (tie.spec sub-print-bad part-print-bad-start part-print-bad-end print-bad-requires add-result same-length returns slice-aggregate-answer-line answer-line-requires same-length-2 same-length-3 returns-2)

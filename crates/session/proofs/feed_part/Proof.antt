@@ -1,17 +1,17 @@
 -- `session::feed_part` meets its contract. The invariant: the bytes taken so far are fed, and what is said to them is written.
-use mathlib.Core.Path.{refl, _∙_}
-use mathlib.Core.Logic.{inl, inr}
 use Prim.Native.Nat.{_-_}
 use native.Mathlib.Omega.{arith}
 use denote.Ref.{now}
 use lib.ListN.{length}
 use borrow.Author.Needs.{needs}
-use Rattle.session.proofs.Feeding.{Turn, reached-none, reached-more, fed-is}
+use Rattle.session.specs.Kept.{Kept, keeps}
+use Rattle.session.proofs.Feeding.{Turn, turn-none, turn-more, fed-is, taken-none, taken-full}
 use Rattle.session.proofs.feed_part.Statement.{statement}
 use Rattle.session.proofs.feed_part.Tie as tie
 
 abbrev Inv-loop : tie.InvT-loop
-Inv-loop m₀ line₀ begun input out₀ taken₀ at₀ kept₀ m line out taken at kept = Turn m₀ line₀ begun input out₀ m line out taken at kept
+Inv-loop m₀ line₀ begun input out₀ taken₀ at₀ kept₀ m line out taken at kept =
+    Turn (keeps m₀ line₀ begun) input out₀ m line out taken at kept
 
 abbrev μ-loop : tie.MeasureT-loop
 μ-loop m₀ line₀ begun input out₀ taken₀ at₀ kept₀ m line out taken at kept = length input - taken
@@ -19,15 +19,7 @@ abbrev μ-loop : tie.MeasureT-loop
 loop-holds : tie.Need-loop-holds Inv-loop μ-loop
 loop-holds c =
     let start = c .before .before .before .before in
-    record {
-      tables = refl;
-      full = start .pre;
-      output = refl;
-      inside = omega arith;
-      written = omega arith;
-      first = λ _. refl;
-      reached = λ s g. reached-none (now (start .args .out)) g;
-    }
+    turn-none (now (start .args .m)) (now (start .args .line)) (now (start .args .input)) (now (start .args .out)) (start .args .begun) (start .pre)
 
 sub-if1 : tie.Need-sub-if1 Inv-loop μ-loop
 sub-if1 c = search needs
@@ -43,9 +35,8 @@ same-length-3 c = search needs
 
 returns : tie.Need-returns Inv-loop μ-loop
 returns c =
-    let start = c .before .before .before .before .before .before .before in
     let i = c .before .before .loop .inv in
-    fed-is (now (start .args .input)) (now (start .args .out)) _ _ _ _ i (inr (omega arith))
+    fed-is i (taken-full _ _ _ (omega (arith, i .output)))
 
 shared-slice-read-take-byte : tie.Need-shared-slice-read-take-byte Inv-loop μ-loop
 shared-slice-read-take-byte c = search needs
@@ -63,17 +54,12 @@ loop-again : tie.Need-loop-again Inv-loop μ-loop
 loop-again c =
     let start = c .before .before .before .before .before .before .before .before .before .before .before .before .before .before .before .before .before .before in
     let at-loop = c .before .before .before .before .before .before .before .before .before .before .before .before .before .loop in
-    let i = at-loop .inv in
+    let kept : Kept = keeps (now (start .args .m)) (now (start .args .line)) (start .args .begun) in
     let step = c .before .before .before .before .before .before .take-byte in
-    record {
-      tables = step .kept .0 ∙ i .tables;
-      full = step .kept .1 .0 ∙ i .full;
-      output = step .kept .1 .1 .1 .1 .0 ∙ i .output;
-      inside = omega arith;
-      written = omega (arith, step .ensures .0);
-      first = λ e. absurd (omega arith);
-      reached = λ s g. reached-more s (now (start .args .input)) (at-loop .taken) (c .before .before .before .before .before .before .before .before .before .before .before .before .loop-test .taken) (step .result) (i .written) (i .reached s g) (step .ensures .1 _ (i .reached s g .between));
-    }
+    turn-more kept (now (start .args .input)) (at-loop .taken)
+    (c .before .before .before .before .before .before .before .before .before .before .before .before .loop-test .taken)
+    (now (start .args .out)) _ _ _ _ _ _ (at-loop .at) (at-loop .kept) (step .result) (at-loop .inv) (omega arith) (step .ensures)
+    (step .kept .0) (step .kept .1 .0) (step .kept .1 .1 .1 .1 .0)
 
 same-length-4 : tie.Need-same-length-4 Inv-loop μ-loop
 same-length-4 c = search needs
@@ -85,10 +71,7 @@ same-length-6 : tie.Need-same-length-6 Inv-loop μ-loop
 same-length-6 c = search needs
 
 returns-2 : tie.Need-returns-2 Inv-loop μ-loop
-returns-2 c =
-    let start = c .before .before .before .before .before .before in
-    let i = c .before .loop .inv in
-    fed-is (now (start .args .input)) (now (start .args .out)) _ _ _ _ i (inl (omega arith))
+returns-2 c = fed-is (c .before .loop .inv) (taken-none _ (now (c .before .before .before .before .before .before .args .input)) (c .before .loop .taken) _ (omega arith))
 
 pub feed-part-spec : {M : Type 1} → statement M
 feed-part-spec = tie.close (tie.spec Inv-loop μ-loop loop-holds sub-if1 same-length same-length-2 same-length-3 returns shared-slice-read-take-byte take-byte-requires add-taken loop-less loop-again same-length-4 same-length-5 same-length-6 returns-2)

@@ -1,5 +1,4 @@
 -- `session::finish` meets its contract: the line's bytes and the output are lent as slices.
-use native.Mathlib.Omega.{arith}
 use borrow.Author.Needs.{needs}
 use Rattle.session.proofs.finish.Statement.{statement}
 use Rattle.session.proofs.finish.Tie as tie
@@ -11,7 +10,7 @@ same-length : tie.Need-same-length
 same-length c = search needs
 
 returns : tie.Need-returns
-returns c = (omega (arith, c .before .before .end-input .ensures .0), c .before .before .end-input .ensures .1)
+returns c = search needs
 
 pub finish-spec : {M : Type 1} → statement M
 finish-spec = tie.close (tie.spec end-input-requires same-length returns)
