@@ -232,6 +232,10 @@ fn is_queue_laid(m: &[u8], i: usize) -> bool
 {
     let at = SLOTS_AT + SLOT_WORDS * i;
     let waiters = slot_waiters(m, i) as usize;
+    // Most queues are empty, and a look at all places has no loop.
+    if waiters == 0 {
+        return words::is_blank(m, at + QUEUE, at + SLOT_WORDS);
+    }
     if QUEUE_PLACES < waiters {
         return false;
     }

@@ -1,6 +1,10 @@
 -- `tables::is_queue_laid` meets its contract, by the number of waiters.
 use borrow.Author.Needs.{needs}
+use mathlib.Core.Path.{_≡_, ap, _∙_}
+use Prim.Native.Nat.{ℕ, _+_, _≤_}
 use native.Mathlib.Omega.{arith}
+use Rattle.words.specs.Words.{blank}
+use Rattle.tables.specs.Layout.{slotPlace}
 use Rattle.tables.proofs.LoadStore.{queue-long, queue-within}
 use Rattle.tables.proofs.is_queue_laid.Statement.{statement}
 use Rattle.tables.proofs.is_queue_laid.Tie as tie
@@ -17,28 +21,46 @@ slot-waiters-requires c κs = search needs
 cast-waiters : tie.Need-cast-waiters
 cast-waiters c = search needs
 
-returns : tie.Need-returns
-returns c =
-    let first = c .before .before .before .args in
-    queue-long (first .m .now) (first .i) (c .before .slot-waiters .result) (c .before .slot-waiters .ensures) (omega arith)
-
 add-is-blank : tie.Need-add-is-blank
 add-is-blank c = search needs
 
 add-is-blank-2 : tie.Need-add-is-blank-2
 add-is-blank-2 c = search needs
 
-add-is-blank-3 : tie.Need-add-is-blank-3
-add-is-blank-3 c = search needs
-
 is-blank-requires : tie.Need-is-blank-requires
 is-blank-requires c κs = search needs
 
+returns : tie.Need-returns
+returns c =
+    let count = c .before .before .slot-waiters in
+    let o = c .before .before .before .before .args in
+    let none : slotPlace (o .i) + 8 ≡ slotPlace (o .i) + 8 + count .result = omega arith in
+    queue-within (o .m .now) (o .i) (count .result) (count .ensures) _ (omega arith)
+    (c .is-blank .ensures ∙ ap (λ (n : ℕ). blank (o .m .now) n (slotPlace (o .i) + 40)) none)
+
 returns-2 : tie.Need-returns-2
 returns-2 c =
-    let first = c .before .before .before .before .args in
-    queue-within (first .m .now) (first .i) (c .before .before .slot-waiters .result) (c .before .before .slot-waiters .ensures) _ (omega arith)
-    (c .is-blank .ensures)
+    let count = c .before .before .slot-waiters in
+    let o = c .before .before .before .before .args in
+    queue-long (o .m .now) (o .i) (count .result) (count .ensures) (omega arith)
+
+add-is-blank-3 : tie.Need-add-is-blank-3
+add-is-blank-3 c = search needs
+
+add-is-blank-4 : tie.Need-add-is-blank-4
+add-is-blank-4 c = search needs
+
+add-is-blank-5 : tie.Need-add-is-blank-5
+add-is-blank-5 c = search needs
+
+is-blank-requires-2 : tie.Need-is-blank-requires-2
+is-blank-requires-2 c κs = search needs
+
+returns-3 : tie.Need-returns-3
+returns-3 c =
+    let count = c .before .before .before .slot-waiters in
+    let o = c .before .before .before .before .before .args in
+    queue-within (o .m .now) (o .i) (count .result) (count .ensures) _ (omega arith) (c .is-blank2 .ensures)
 
 pub is-queue-laid-spec : {M : Type 1} → statement M
 is-queue-laid-spec =
@@ -48,9 +70,13 @@ is-queue-laid-spec =
     add-at
     slot-waiters-requires
     cast-waiters
-    returns
     add-is-blank
     add-is-blank-2
-    add-is-blank-3
     is-blank-requires
-    returns-2)
+    returns
+    returns-2
+    add-is-blank-3
+    add-is-blank-4
+    add-is-blank-5
+    is-blank-requires-2
+    returns-3)
