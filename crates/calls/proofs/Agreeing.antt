@@ -25,7 +25,6 @@ use Rattle.rules.proofs.Invariants.Room as room
 use Rattle.rules.proofs.Invariants.Kept.{kept}
 use Rattle.tables.specs.Codec.{taskRow, slotRow}
 use Rattle.tables.specs.Layout.{laid, modelOf}
-
 use Rattle.tables.specs.Sizes.{Sized, Holds}
 use Rattle.tables.proofs.LayoutRead.{length-laid, modelOf-laid}
 use Rattle.tables.proofs.LayoutHolds.{holds-rows, laid-bytes, task-row-words, slot-row-words}
@@ -114,7 +113,8 @@ module _ (t : Tables) (a : Agrees t) where
   task-words : (i : ℕ) → Words (taskRow (nthTask t i))
   task-words i =
       let f = facts .tasks i in
-      task-row-words (nthTask t i) (omega (arith, priority-few i)) (omega (arith, answer-few (nthTask t i .answer) (f .answer))) (omega (arith, f .awaited)) (omega (arith, f .ticks))
+      task-row-words (nthTask t i) (omega (arith, priority-few i)) (omega (arith, answer-few (nthTask t i .answer) (f .answer))) (omega (arith, f .awaited))
+      (omega (arith, f .ticks))
 
   slot-words : (j : ℕ) → Words (slotRow (nthSlot t j))
   slot-words j =
@@ -149,7 +149,8 @@ sized {bs} g =
     }
 
 -- a call keeps agreement, so that the next one needs no test
-pub agrees-after : {bs : List ℕ} → Agreeing bs → (call : Call) (priorities : List ℕ) → callFits call ≡ true → Agrees (perform (modelOf bs) call priorities .tables)
+pub agrees-after : {bs : List ℕ} → Agreeing bs → (call : Call) (priorities : List ℕ) → callFits call ≡ true
+    → Agrees (perform (modelOf bs) call priorities .tables)
 unfolding step
 agrees-after {bs} g call priorities fits =
     let t = modelOf bs in

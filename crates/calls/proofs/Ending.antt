@@ -25,7 +25,8 @@ use Rattle.calls.proofs.Entering.{task-first, any-first, entry-refused,
 abbrev pub emptied : Tables → ℕ → Slot → ℕ → Tables
 emptied t n slot answer = wakeAll (putSlot t n slot) (slotOf t n .queue) answer
 
-pub emptied-laid : {t : Tables} → Agrees t → {id n : ℕ} {s : Semaphore} → Found t id n s → (slot : Slot) (answer : ℕ) {bs₁ bs₂ : List ℕ} → bs₁ ≡ laid (putSlot t n slot)
+pub emptied-laid : {t : Tables} → Agrees t → {id n : ℕ} {s : Semaphore} → Found t id n s → (slot : Slot) (answer : ℕ) {bs₁ bs₂ : List ℕ}
+    → bs₁ ≡ laid (putSlot t n slot)
     → ((t : Tables) → bs₁ ≡ laid t → ((k : ℕ) → k < s .waiters → getD (s .queue) k 0 ≤ length (t .tasks)) → bs₂ ≡ laid (wakeAll t (take (s .waiters) (s .queue)) answer))
     → bs₂ ≡ laid (emptied t n slot answer)
 emptied-laid {t} a {n = n} f slot answer stored woken =
@@ -44,13 +45,15 @@ module _ {t : Tables} (caller : ℕ) {x id : ℕ} {r : Entered} (e : Enters t x 
     module _ (z : r .refusal ≡ 0) where
       -- the record's class and owner are the slot's
       owned-same : owned (slotOf t (slotNamed t id)) ≡ owned (slotFrom (r .semaphore))
-      owned-same = let f = e .found z in ap {B = Bool} (λ (k : ℕ). owned (slotOf t k)) (f .number) ∙ sym (ap {B = Bool} (λ (y : Slot). owned y) (f .stands .same))
+      owned-same =
+          let f = e .found z in ap {B = Bool} (λ (k : ℕ). owned (slotOf t k)) (f .number) ∙ sym (ap {B = Bool} (λ (y : Slot). owned y) (f .stands .same))
 
       pub delete-owned : owned (slotFrom (r .semaphore)) ≡ true → delete t caller id ≡ refused t 12
       unfolding delete deleteRefusal
       delete-owned o = entry-passed (task-first t caller) is e _ _ z ∙ unless-refused t _ 12 (if-yes 12 0 (owned-same ∙ o)) (λ w. omega arith)
 
-      pub delete-done : owned (slotFrom (r .semaphore)) ≡ false → delete t caller id ≡ answered 0 0 (emptied t (r .slot) (freeSlot (r .semaphore .generation)) 7)
+      pub delete-done : owned (slotFrom (r .semaphore)) ≡ false
+          → delete t caller id ≡ answered 0 0 (emptied t (r .slot) (freeSlot (r .semaphore .generation)) 7)
       unfolding delete deleteRefusal
       delete-done o =
           let f = e .found z in

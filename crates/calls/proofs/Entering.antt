@@ -64,7 +64,8 @@ module _ {first : ℕ → ℕ} (f : CallerFirst first) {x : ℕ} (is : x ≡ fir
         (λ (p : eqb x 0 ≡ true).
         let q : r .refusal ≡ choose (names t id) 0 4 = e .refusal ∙ if-yes _ _ p in
         ⊎-elim (λ (h : names t id ≡ true). absurd (n (q ∙ if-yes 0 4 h)))
-        (λ (h : names t id ≡ false). caller-passed (choose (names t id) rest 4) (eqb-true x 0 p) ∙ if-no rest 4 h ∙ sym (q ∙ if-no 0 4 h)) (tested (names t id)))
+        (λ (h : names t id ≡ false). caller-passed (choose (names t id) rest 4) (eqb-true x 0 p) ∙ if-no rest 4 h ∙ sym (q ∙ if-no 0 4 h))
+        (tested (names t id)))
         (λ (p : eqb x 0 ≡ false). caller-refused (choose (names t id) rest 4) (eqb-false x 0 p) ∙ sym (e .refusal ∙ if-no _ _ p))
         (tested (eqb x 0))
 
@@ -96,7 +97,8 @@ count-most N u s fits l =
         (λ (b : isBinary (s .attributes) ≡ true).
         ⊎-elim (λ (z : Unheld s). omega (arith, z .count)) (λ (z : Held N s). omega (arith, z .count)) (fits .whenLive l .owned b))
         (λ (b : isBinary (s .attributes) ≡ false).
-        ⊎-elim (λ (m : isBinary (s .attributes) ≡ true). never m b) (λ (m : isSimple (s .attributes) ≡ true). fits .whenLive l .unowned b .simple m) (or-either _ _ e))
+        ⊎-elim (λ (m : isBinary (s .attributes) ≡ true). never m b) (λ (m : isSimple (s .attributes) ≡ true). fits .whenLive l .unowned b .simple m)
+        (or-either _ _ e))
         (tested (isBinary (s .attributes)))
 
 module _ {t : Tables} (a : Agrees t) {id n : ℕ} {s : Semaphore} (f : Found t id n s) where
@@ -106,7 +108,9 @@ module _ {t : Tables} (a : Agrees t) {id n : ℕ} {s : Semaphore} (f : Found t i
   -- who waits in its queue is a task
   pub waiter-tasks : (k : ℕ) → k < s .waiters → (1 ≤ getD (s .queue) k 0) × (getD (s .queue) k 0 ≤ length (t .tasks))
   waiter-tasks k h =
-      let q : getD (slotOf t n .queue) k 0 ≡ getD (s .queue) k 0 = sym (ap (λ (x : Slot). getD (x .queue) k 0) (f .stands .same)) ∙ getD-take (s .waiters) (s .queue) k 0 h in
+      let q : getD (slotOf t n .queue) k 0 ≡ getD (s .queue) k 0 =
+      sym (ap (λ (x : Slot). getD (x .queue) k 0) (f .stands .same)) ∙ getD-take (s .waiters) (s .queue) k 0 h
+      in
       let w = entry-tasks t a (pred n) k (omega (arith, waiters-are (f .stands))) in
       (subst (λ (y : ℕ). 1 ≤ y) q (w .0), subst (λ (y : ℕ). y ≤ length (t .tasks)) q (w .1))
 
@@ -116,11 +120,18 @@ module _ {t : Tables} (a : Agrees t) {id n : ℕ} {s : Semaphore} (f : Found t i
   -- there is room for a caller that does not wait
   pub room : {caller : ℕ} → Caller t caller → s .waiters < 32
   room {caller} who =
-      omega (arith, waiters-are (f .stands), tasks-few t a, queue-room t (agrees-facts t a) (pred n) (f .live) (pred caller) (omega (arith, who .first, who .last)) (who .ready))
+      omega (
+        arith,
+        waiters-are (f .stands),
+        tasks-few t a,
+        queue-room t (agrees-facts t a) (pred n) (f .live) (pred caller)
+            (omega (arith, who .first, who .last)) (who .ready),
+      )
 
   pub count-within : s .count ≤ maximum (s .attributes)
   count-within =
-      subst (λ (x : Slot). x .count ≤ maximum (x .attributes)) (sym (f .stands .same)) (count-most _ _ (slotOf t n) (agrees-facts t a .slots (pred n)) (f .live))
+      subst (λ (x : Slot). x .count ≤ maximum (x .attributes)) (sym (f .stands .same))
+      (count-most _ _ (slotOf t n) (agrees-facts t a .slots (pred n)) (f .live))
 
 -- ---- what `enter` shows
 

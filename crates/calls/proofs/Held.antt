@@ -23,7 +23,8 @@ use Rattle.rules.proofs.Call.Laws as call-laws
 wait-held : (wait : Wait) (vs : List Val) → Is (row wait-type.the-type) wait vs → waitFits wait ≡ true
 wait-held wait vs is = fits wait (owed wait-type.the-type wait-laws.the-laws wait vs is)
   where
-    fits : (wait : Wait) → Fields (variants wait-type.the-type) (spellss (wait-type.the-type .parts) wait-laws.the-laws) (wait-type.the-type .to wait) → waitFits wait ≡ true
+    fits : (wait : Wait) → Fields (variants wait-type.the-type) (spellss (wait-type.the-type .parts) wait-laws.the-laws) (wait-type.the-type .to wait)
+        → waitFits wait ≡ true
     fits Poll f = refl
     fits Forever f = refl
     fits (Ticks n) f = le-leb n maxNumber (omega arith)
@@ -31,13 +32,16 @@ wait-held wait vs is = fits wait (owed wait-type.the-type wait-laws.the-laws wai
 pub call-held : (call : Call) (vs : List Val) → Is (row call-type.the-type) call vs → callFits call ≡ true
 call-held call vs is = fits call (owed call-type.the-type call-laws.the-laws call vs is)
   where
-    fits : (call : Call) → Fields (variants call-type.the-type) (spellss (call-type.the-type .parts) call-laws.the-laws) (call-type.the-type .to call) → callFits call ≡ true
+    fits : (call : Call) → Fields (variants call-type.the-type) (spellss (call-type.the-type .parts) call-laws.the-laws) (call-type.the-type .to call)
+        → callFits call ≡ true
     fits (Start slots) f = le-leb slots maxNumber (omega arith)
     fits (Create caller name count attributes) f =
-        both-and (le-leb caller maxNumber (omega arith)) (both-and (le-leb name maxNumber (omega arith)) (both-and (le-leb count maxNumber (omega arith)) (le-leb attributes maxNumber (omega arith))))
+        both-and (le-leb caller maxNumber (omega arith))
+        (both-and (le-leb name maxNumber (omega arith)) (both-and (le-leb count maxNumber (omega arith)) (le-leb attributes maxNumber (omega arith))))
     fits (Ident name) f = le-leb name maxNumber (omega arith)
     fits (Delete caller id) f = both-and (le-leb caller maxNumber (omega arith)) (le-leb id maxNumber (omega arith))
-    fits (Obtain caller id wait) f = both-and (le-leb caller maxNumber (omega arith)) (both-and (le-leb id maxNumber (omega arith)) (wait-held wait _ (f .1 .1 .0)))
+    fits (Obtain caller id wait) f =
+        both-and (le-leb caller maxNumber (omega arith)) (both-and (le-leb id maxNumber (omega arith)) (wait-held wait _ (f .1 .1 .0)))
     fits (Release caller id) f = both-and (le-leb caller maxNumber (omega arith)) (le-leb id maxNumber (omega arith))
     fits (Flush caller id) f = both-and (le-leb caller maxNumber (omega arith)) (le-leb id maxNumber (omega arith))
     fits Tick f = refl

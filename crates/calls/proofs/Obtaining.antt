@@ -67,7 +67,8 @@ module _ {t : Tables} (caller : ℕ) {x id : ℕ} {r : Entered} (is : x ≡ task
       place-few = omega (arith, place-is, place-within (urgency t) (slotOf t (r .slot)) caller, waiters-are (e .found z .stands))
 
       -- a step on the record is that on the slot
-      pub taken-slot : (wait : Wait) {k : TakenRecord} → TakenIs k (takeStep (slotFrom (r .semaphore)) caller place wait) → TakenIs k (taking t (r .slot) caller wait)
+      pub taken-slot : (wait : Wait) {k : TakenRecord} → TakenIs k (takeStep (slotFrom (r .semaphore)) caller place wait)
+          → TakenIs k (taking t (r .slot) caller wait)
       taken-slot wait {k} taken =
           subst (λ (y : Slot). TakenIs k (takeStep y caller (placeOf (urgency t) (slotOf t (r .slot)) caller) wait)) (e .found z .stands .same)
           (subst (λ (p : ℕ). TakenIs k (takeStep (slotFrom (r .semaphore)) caller p wait)) place-is taken)

@@ -55,7 +55,8 @@ module _ (bs : List ℕ) (q : ℕ) (r : Answer) where
   unfolding taskAnswer
   task-outside e p = p ∙ sym (ap {B = Answer} (λ (o : Outcome). o .answer) (if-no _ _ e))
 
-  pub task-within : 1 ≤ q → q ≤ length (modelOf bs .tasks) → (v : Task) → v ≡ taskAt bs (q - 1) → r ≡ answered 0 (v .answer) (modelOf bs) .answer → r ≡ taskAnswer (modelOf bs) q
+  pub task-within : 1 ≤ q → q ≤ length (modelOf bs .tasks) → (v : Task) → v ≡ taskAt bs (q - 1) → r ≡ answered 0 (v .answer) (modelOf bs) .answer
+      → r ≡ taskAnswer (modelOf bs) q
   unfolding taskAnswer
   task-within low high v loaded p =
       let same : v ≡ taskOf (modelOf bs) q =

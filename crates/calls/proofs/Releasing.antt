@@ -76,4 +76,5 @@ module _ {t : Tables} (caller : ℕ) {x id : ℕ} {r : Entered} (is : x ≡ anyC
 
       pub release-handed : (g .woken ≡ 0 → ⊥) → release t caller id ≡ answered 0 0 (handedOn t (r .slot) caller)
       release-handed n =
-          passed ∙ ap {B = Outcome} (λ (t : Tables). answered 0 0 t) (if-ne (giveStep (slotOf t (r .slot)) caller .woken) 0 _ _ (λ w. n (given-slot .woken ∙ w)))
+          passed ∙ ap {B = Outcome} (λ (t : Tables). answered 0 0 t)
+          (if-ne (giveStep (slotOf t (r .slot)) caller .woken) 0 _ _ (λ w. n (given-slot .woken ∙ w)))

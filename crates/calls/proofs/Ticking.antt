@@ -29,5 +29,10 @@ task-queues {bs} g =
       model = t;
       same = g .same;
       limited = limited t (g .agrees);
-      numbers = λ i h. record { low = λ k l. entry-tasks t (g .agrees) i k l .0; high = λ k l. omega (arith, entry-tasks t (g .agrees) i k l .1, tasks-few t (g .agrees)) };
+      numbers =
+          λ i h. record {
+            low = λ k l. entry-tasks t (g .agrees) i k l .0;
+            high = λ k l. omega
+                (arith, entry-tasks t (g .agrees) i k l .1, tasks-few t (g .agrees));
+          };
     }

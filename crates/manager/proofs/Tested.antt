@@ -29,7 +29,8 @@ passes {bs} g =
     both-and (subst (λ (l : List ℕ). isLaid l ≡ true) (sym (g .same)) (isLaid-laid t (agrees-holds t (g .agrees)))) (agrees-true t (g .agrees))
 
 module _ (bs : List ℕ) (call : Call) (priorities : List ℕ) {r : Answer} where
-  pub replied : agreesBytes bs ≡ true → {after : List ℕ} → Replied r after (reply (perform (modelOf bs) call priorities)) → Replied r after (replyTo bs call priorities)
+  pub replied : agreesBytes bs ≡ true → {after : List ℕ} → Replied r after (reply (perform (modelOf bs) call priorities))
+      → Replied r after (replyTo bs call priorities)
   unfolding replyTo
   replied e {after} d = subst (Replied r after) (sym (if-yes _ _ e)) d
 

@@ -7,9 +7,12 @@ use Rattle.rules.specs.declared.Call.{Call}
 use Rattle.rules.specs.declared.Call.the-variants.{Start, Obtain}
 use Rattle.rules.specs.declared.Answer.{Answer}
 use Rattle.rules.specs.Machine.{Tables, unstarted, next, mostUrgent}
-use Rattle.rules.specs.Agreement.{occurs, sizesFit, numbersFit, answersFit, liveNamed, attributesAllowed, waitersQueued, queuesWait, queuesOrdered, queuedAtZero, binariesOwned, othersUnowned, readyAtRest, freeSlotsClear, agrees}
+use Rattle.rules.specs.Agreement.{occurs, sizesFit, numbersFit, answersFit, liveNamed, attributesAllowed, waitersQueued, queuesWait}
+use Rattle.rules.specs.Agreement.{queuesOrdered, queuedAtZero, binariesOwned, othersUnowned, readyAtRest, freeSlotsClear, agrees}
 use Rattle.rules.specs.Semaphore.{waitOf, ahead, placeOf, takeStep, giveStep, passStep, flushStep}
-use Rattle.rules.specs.Calls.{wakeAll, startRefusal, started, start, firstFree, createRefusal, newSemaphore, create, firstNamed, ident, deleteRefusal, delete, obtainRefusal, obtain, releaseRefusal, release, flushRefusal, flush, ticked, stillWaiting, tickedSlot, tick, perform, step}
+use Rattle.rules.specs.Calls.{wakeAll, startRefusal, started, start, firstFree, createRefusal, newSemaphore, create, firstNamed, ident}
+use Rattle.rules.specs.Calls.{deleteRefusal, delete, obtainRefusal, obtain, releaseRefusal, release, flushRefusal, flush, ticked, stillWaiting}
+use Rattle.rules.specs.Calls.{tickedSlot, tick, perform, step}
 use Rattle.rules.specs.Runs.{Request, stepOf, after, answers}
 
 infixr 20 _gives_

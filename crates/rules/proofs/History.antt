@@ -1,6 +1,8 @@
--- What a run of calls leaves for good: identifiers never come back.
+-- What a run of calls leaves for good: identifiers never come back, and a slot freed at the last generation is never used again.
+pub mod Passed
 pub mod Forward
 pub mod Used
 pub mod CallsForward
 pub mod Done
+pub mod Unnamed
 pub mod Identifiers

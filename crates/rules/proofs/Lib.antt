@@ -5,5 +5,6 @@ pub mod Performed
 pub mod Refusals
 pub mod Statuses
 pub mod Next
+pub mod Searching
 pub mod Invariants
 pub mod History

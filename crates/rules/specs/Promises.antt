@@ -8,11 +8,12 @@ use lib.Dec.{eqb}
 use lib.ListN.{length}
 use Rattle.laws.specs.Choose.{choose, _or_}
 use Rattle.rules.specs.declared.Call.{Call}
+use Rattle.rules.specs.declared.Answer.{Answer}
 use Rattle.rules.specs.declared.Call.the-variants.{Start, Create, Ident, Delete, Obtain, Release, Flush, Tick}
-use Rattle.rules.specs.Numbers.{maxPriority, successful, invalidName, invalidId, tooMany, invalidNumber, notDefined, resourceInUse}
-use Rattle.rules.specs.Numbers.{unsatisfied, incorrectState, calledFromIsr, invalidPriority, notOwnerOfResource, internalError}
+use Rattle.rules.specs.Numbers.{maxPriority, maxGeneration, successful, invalidName, invalidId, tooMany, invalidNumber, notDefined}
+use Rattle.rules.specs.Numbers.{resourceInUse, unsatisfied, incorrectState, calledFromIsr, invalidPriority, notOwnerOfResource, internalError}
 use Rattle.rules.specs.Numbers.{waiting}
-use Rattle.rules.specs.Machine.{Tables, taskOf, waits, next}
+use Rattle.rules.specs.Machine.{Tables, taskOf, slotOf, waits, isLive, next}
 use Rattle.rules.specs.Calls.{Outcome}
 use Rattle.rules.specs.Runs.{Request, stepOf}
 
@@ -21,6 +22,11 @@ pub record Refusal (t : Tables) (o : Outcome) : Type 0 where
   pub kept : o .tables ≡ t
   pub value : o .answer .value ≡ 0
   pub nextTask : o .answer .next ≡ choose (eqb (o .answer .status) internalError) 0 (next t)
+
+-- all numbers but 0 and 100 are refusals
+pub record IsRefusal (status : ℕ) : Type 0 where
+  pub notDone : status ≡ successful → ⊥
+  pub notBegun : status ≡ waiting → ⊥
 
 -- the calls whose success has a value
 unfoldable pub valued : Call → Bool
@@ -84,3 +90,30 @@ pub record MostUrgent (t : Tables) (q : ℕ) : Type 0 where
 pub data NextIs (t : Tables) (q : ℕ) : Type 0 where
   nobody : q ≡ 0 → ((r : ℕ) → 1 ≤ r → r ≤ length (t .tasks) → (waits (taskOf t r) ≡ true) ⊎ (maxPriority < taskOf t r .priority)) → NextIs t q
   somebody : MostUrgent t q → NextIs t q
+
+-- ---- identifiers and slots that do not come back
+
+-- a call takes that identifier
+unfoldable pub takes : Call → ℕ → Bool
+takes (Start slots) n = false
+takes (Create caller name count attributes) n = false
+takes (Ident name) n = false
+takes (Delete caller id) n = eqb id n
+takes (Obtain caller id wait) n = eqb id n
+takes (Release caller id) n = eqb id n
+takes (Flush caller id) n = eqb id n
+takes Tick n = false
+
+-- of the answers to calls, each with any priorities beside it: no create and no ident gives the identifier, and a call that takes it is refused
+pub record NeverAgain (answer : Call → List ℕ → Answer) (id : ℕ) : Type 0 where
+  pub notCreated : (caller name count attributes : ℕ) (priorities : List ℕ) → let a =
+      answer (Create caller name count attributes) priorities in a .status ≡ successful → a .value ≡ id → ⊥
+  pub notFound : (name : ℕ) (priorities : List ℕ) → let a = answer (Ident name) priorities in a .status ≡ successful → a .value ≡ id → ⊥
+  pub refused : (call : Call) (priorities : List ℕ) → takes call id ≡ true → IsRefusal (answer call priorities .status)
+
+-- a slot that was freed at the last generation
+pub record Retired (t : Tables) (n : ℕ) : Type 0 where
+  pub low : 1 ≤ n
+  pub high : n ≤ length (t .slots)
+  pub free : isLive (slotOf t n) ≡ false
+  pub spent : slotOf t n .generation ≡ maxGeneration

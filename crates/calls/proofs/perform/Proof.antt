@@ -29,8 +29,11 @@ same-length c = search needs
 returns : tie.Need-returns
 returns c =
     let stepped = c .before .before .before .before in
-    let s = stepped .before .before .before .before in
-    (replied (s .pre) (s .args .call) (s .args .priorities .now) (call-held (s .args .call) _ (s .good .1 .0)) (stepped .step .ensures) (c .answer .ensures), kept stepped)
+    let s = stepped .before .before .before .before in (
+      replied (s .pre) (s .args .call) (s .args .priorities .now) (call-held (s .args .call) _ (s .good .1 .0)) (stepped .step .ensures)
+          (c .answer .ensures),
+      kept stepped,
+    )
 
 pub perform-spec : {M : Type 1} → statement M
 perform-spec = tie.close (tie.spec step-requires answer-requires same-length returns)

@@ -13,7 +13,8 @@ use Rattle.calls.proofs.step.Tie as tie
 
 -- what is done for what a call is, is done for the call
 asked : (s : tie.Start) {after : List ℕ} {r : Done} {is : Call} → s .args .call ≡ is
-    → Does (now (s .args .m)) after r (λ t. perform t is (now (s .args .priorities))) → Does (now (s .args .m)) after r (λ t. perform t (s .args .call) (now (s .args .priorities)))
+    → Does (now (s .args .m)) after r (λ t. perform t is (now (s .args .priorities)))
+    → Does (now (s .args .m)) after r (λ t. perform t (s .args .call) (now (s .args .priorities)))
 asked s {after} {r} e d = subst (λ (x : Call). Does (now (s .args .m)) after r (λ t. perform t x (now (s .args .priorities)))) (sym e) d
 
 enum-known-call : tie.Need-enum-known-call
@@ -69,14 +70,18 @@ same-length c = search needs
 
 returns : tie.Need-returns
 unfolding perform
-returns c = asked (c .before .before .before .before .before .before .before .before .before) (c .before .before .before .before .before .call .given .1) (c .before .before .start .ensures)
+returns c =
+    asked (c .before .before .before .before .before .before .before .before .before) (c .before .before .before .before .before .call .given .1)
+    (c .before .before .start .ensures)
 
 same-length-2 : tie.Need-same-length-2
 same-length-2 c = search needs
 
 returns-2 : tie.Need-returns-2
 unfolding perform
-returns-2 c = asked (c .before .before .before .before .before .before .before .before .before) (c .before .before .before .before .before .call2 .given .1) (c .before .before .create .ensures)
+returns-2 c =
+    asked (c .before .before .before .before .before .before .before .before .before) (c .before .before .before .before .before .call2 .given .1)
+    (c .before .before .create .ensures)
 
 same-length-3 : tie.Need-same-length-3
 same-length-3 c = search needs
@@ -90,35 +95,45 @@ same-length-4 c = search needs
 
 returns-4 : tie.Need-returns-4
 unfolding perform
-returns-4 c = asked (c .before .before .before .before .before .before .before .before .before) (c .before .before .before .before .before .call4 .given .1) (c .before .before .delete .ensures)
+returns-4 c =
+    asked (c .before .before .before .before .before .before .before .before .before) (c .before .before .before .before .before .call4 .given .1)
+    (c .before .before .delete .ensures)
 
 same-length-5 : tie.Need-same-length-5
 same-length-5 c = search needs
 
 returns-5 : tie.Need-returns-5
 unfolding perform
-returns-5 c = asked (c .before .before .before .before .before .before .before .before .before) (c .before .before .before .before .before .call5 .given .1) (c .before .before .obtain .ensures)
+returns-5 c =
+    asked (c .before .before .before .before .before .before .before .before .before) (c .before .before .before .before .before .call5 .given .1)
+    (c .before .before .obtain .ensures)
 
 same-length-6 : tie.Need-same-length-6
 same-length-6 c = search needs
 
 returns-6 : tie.Need-returns-6
 unfolding perform
-returns-6 c = asked (c .before .before .before .before .before .before .before .before .before) (c .before .before .before .before .before .call6 .given .1) (c .before .before .release .ensures)
+returns-6 c =
+    asked (c .before .before .before .before .before .before .before .before .before) (c .before .before .before .before .before .call6 .given .1)
+    (c .before .before .release .ensures)
 
 same-length-7 : tie.Need-same-length-7
 same-length-7 c = search needs
 
 returns-7 : tie.Need-returns-7
 unfolding perform
-returns-7 c = asked (c .before .before .before .before .before .before .before .before .before) (c .before .before .before .before .before .call7 .given .1) (c .before .before .flush .ensures)
+returns-7 c =
+    asked (c .before .before .before .before .before .before .before .before .before) (c .before .before .before .before .before .call7 .given .1)
+    (c .before .before .flush .ensures)
 
 same-length-8 : tie.Need-same-length-8
 same-length-8 c = search needs
 
 returns-8 : tie.Need-returns-8
 unfolding perform
-returns-8 c = asked (c .before .before .before .before .before .before .before .before) (c .before .before .before .before .enum-told .given .1) (c .before .before .elapse .ensures)
+returns-8 c =
+    asked (c .before .before .before .before .before .before .before .before) (c .before .before .before .before .enum-told .given .1)
+    (c .before .before .elapse .ensures)
 
 pub step-spec : {M : Type 1} → statement M
 step-spec =

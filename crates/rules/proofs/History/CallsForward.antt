@@ -3,7 +3,7 @@ use mathlib.Core.Path.{_≡_, refl}
 use mathlib.Core.Bool.{true}
 use mathlib.Core.List.{List, [], _∷_}
 use mathlib.Core.Logic.{⊎-elim}
-use Prim.Native.Nat.{ℕ, _≤_}
+use Prim.Native.Nat.{ℕ, _≤_, _<_}
 use native.Mathlib.Omega.{arith}
 use lib.Dec.{eqb}
 use lib.ListN.{length, length-map}
@@ -13,14 +13,18 @@ use Rattle.laws.proofs.Choose.{choose-cases, and-both, or-either, if-yes}
 use Rattle.rules.specs.declared.Call.{Call}
 use Rattle.rules.specs.declared.Call.the-variants.{Start, Create, Ident, Delete, Obtain, Release, Flush, Tick}
 use Rattle.rules.specs.declared.Wait.{Wait}
-use Rattle.rules.specs.Numbers.{maxTasks, maxSlots, within}
+use Rattle.rules.specs.Numbers.{maxTasks, maxSlots, maxGeneration, within}
 use Rattle.rules.specs.Machine.{Slot, Tables, slotOf, putSlot, slotNamed}
 use Rattle.rules.specs.Agreement.{agrees}
 use Rattle.rules.specs.Semaphore.{Taken, Given, takeStep, giveStep, passStep, flushStep}
-use Rattle.rules.specs.Calls.{Outcome, unless, wakeAll, openSlot, startRefusal, start, createRefusal, newSemaphore, create, firstNamed, ident, deleteRefusal, delete, obtainRefusal, obtain, releaseRefusal, release, flushRefusal, flush, tickedSlot, tick, perform, step}
+use Rattle.rules.specs.Calls.{Outcome, unless, wakeAll, openSlot, startRefusal, start, createRefusal, newSemaphore, create, firstNamed, ident}
+use Rattle.rules.specs.Calls.{deleteRefusal, delete, obtainRefusal, obtain, releaseRefusal, release, flushRefusal, flush, tickedSlot, tick}
+use Rattle.rules.specs.Calls.{perform, step}
 use Rattle.rules.specs.Runs.{Request, stepOf, after}
 use Rattle.rules.proofs.Invariants.Agreeing.{sizes-within, true-agrees}
-use Rattle.rules.proofs.History.Forward.{Onward, Forward, onward-same, onward-new, onward-freed, forward-refl, forward-trans, forward-slots, forward-put, woken-slots, ticked-slot}
+use Rattle.rules.proofs.History.Passed.{create-passed, open-young}
+use Rattle.rules.proofs.History.Forward.{Onward, Forward, onward-same, onward-new, onward-freed, forward-refl, forward-trans, forward-slots}
+use Rattle.rules.proofs.History.Forward.{forward-put, woken-slots, ticked-slot}
 
 -- a machine that is started, with no more slots than there may be
 pub record Started (t : Tables) : Type 0 where
@@ -55,9 +59,9 @@ same-given s caller =
     P : Given → Type 0
     P x = Onward s (x .slot)
 
-newer : (s : Slot) (caller name count attributes : ℕ) → Onward s (newSemaphore (s .generation) caller name count attributes)
+newer : (s : Slot) (caller name count attributes : ℕ) → s .generation < maxGeneration → Onward s (newSemaphore (s .generation) caller name count attributes)
 unfolding newSemaphore
-newer s caller name count attributes = onward-new s _ (omega arith)
+newer s caller name count attributes h = onward-new s _ (omega arith) h
 
 -- the outcome's tables are forward of these
 pub record Went (t : Tables) (o : Outcome) : Type 0 where
@@ -87,7 +91,10 @@ module _ (t : Tables) where
   unfolding create
   create-went caller name count attributes =
       unless-went (createRefusal t caller name count attributes) _
-      (λ e. record { forward = forward-put t (openSlot t) _ (newer (slotOf t (openSlot t)) caller name count attributes) })
+      (λ e. record {
+        forward = forward-put t (openSlot t) _
+            (newer (slotOf t (openSlot t)) caller name count attributes (open-young t (create-passed t caller name count attributes e)));
+      })
 
   ident-went : (name : ℕ) → Went t (ident t name)
   unfolding ident
@@ -119,7 +126,8 @@ module _ (t : Tables) where
   flush-went : (caller id : ℕ) → Went t (flush t caller id)
   unfolding flush flushStep
   flush-went caller id =
-      unless-went (flushRefusal t caller id) _ (λ e. record { forward = woken-forward (slotNamed t id) _ _ _ (onward-same (slotOf t (slotNamed t id)) _ refl refl) })
+      unless-went (flushRefusal t caller id) _
+      (λ e. record { forward = woken-forward (slotNamed t id) _ _ _ (onward-same (slotOf t (slotNamed t id)) _ refl refl) })
 
   tick-went : Went t (tick t)
   unfolding tick tickedSlot

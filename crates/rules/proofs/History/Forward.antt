@@ -1,17 +1,19 @@
--- What a call does to a slot: its generation never falls, and it comes to life only with a new generation.
-use mathlib.Core.Path.{_≡_, refl, sym, subst}
+-- What a call does to a slot: its generation never falls, it comes to life only with a new generation, and there is none after the last.
+use mathlib.Core.Path.{_≡_, refl, sym, subst, _∙_}
 use mathlib.Core.Bool.{true, false≢true}
 use mathlib.Core.List.{List, [], _∷_, map}
 use Prim.Native.Nat.{ℕ, pred, _≤_, _<_}
 use native.Mathlib.Omega.{arith}
 use lib.ListN.{length, getD, set, length-set, List·getD-map}
 use Rattle.laws.proofs.Fit.{set-cases}
+use Rattle.rules.specs.Numbers.{maxGeneration}
 use Rattle.rules.specs.Machine.{Slot, Tables, freeSlot, slotOf, putSlot, isLive}
 use Rattle.rules.specs.Calls.{wakeAll, stillWaiting, tickedSlot}
 
 pub record Onward (s s′ : Slot) : Type 0 where
   pub rises : s .generation ≤ s′ .generation
   pub lives : s .generation ≡ s′ .generation → isLive s′ ≡ true → isLive s ≡ true
+  pub last : maxGeneration ≤ s .generation → s′ .generation ≡ s .generation
 
 -- every slot goes onward, and there are as many
 pub record Forward (t t′ : Tables) : Type 0 where
@@ -19,18 +21,18 @@ pub record Forward (t t′ : Tables) : Type 0 where
   pub onward : (n : ℕ) → Onward (slotOf t n) (slotOf t′ n)
 
 pub onward-refl : (s : Slot) → Onward s s
-onward-refl s = record { rises = omega arith; lives = λ e l. l }
+onward-refl s = record { rises = omega arith; lives = λ e l. l; last = λ h. refl }
 
 -- the same generation, and live as before
 pub onward-same : (s s′ : Slot) → s′ .generation ≡ s .generation → s′ .live ≡ s .live → Onward s s′
 onward-same s s′ g l =
-    record { rises = omega arith; lives = λ e m. subst (λ (x : ℕ). lib.Dec.eqb x 1 ≡ true) l m }
+    record { rises = omega arith; lives = λ e m. subst (λ (x : ℕ). lib.Dec.eqb x 1 ≡ true) l m; last = λ h. g }
 
-pub onward-new : (s s′ : Slot) → s .generation < s′ .generation → Onward s s′
-onward-new s s′ h = record { rises = omega arith; lives = λ e m. absurd (omega arith) }
+pub onward-new : (s s′ : Slot) → s .generation < s′ .generation → s .generation < maxGeneration → Onward s s′
+onward-new s s′ h l = record { rises = omega arith; lives = λ e m. absurd (omega arith); last = λ m. absurd (omega arith) }
 
 pub onward-freed : (s : Slot) → Onward s (freeSlot (s .generation))
-onward-freed s = record { rises = omega arith; lives = λ e m. absurd (false≢true m) }
+onward-freed s = record { rises = omega arith; lives = λ e m. absurd (false≢true m); last = λ h. refl }
 
 pub onward-trans : {s s′ s″ : Slot} → Onward s s′ → Onward s′ s″ → Onward s s″
 onward-trans {s} {s′} {s″} a b = record {
@@ -39,6 +41,7 @@ onward-trans {s} {s′} {s″} a b = record {
       let f : s .generation ≡ s′ .generation = omega arith in
       let g : s′ .generation ≡ s″ .generation = omega arith in
       a .lives f (b .lives g m);
+  last = λ h. let e = a .last h in b .last (omega arith) ∙ e;
 }
 
 pub forward-refl : (t : Tables) → Forward t t

@@ -1,17 +1,23 @@
--- Identifiers never come back: one that a delete has ended names nothing ever after, and no create gives an identifier twice.
-use mathlib.Core.Path.{_≡_, sym, subst}
+-- Identifiers never come back: one that a delete has ended is neither given nor served ever after, no create gives one twice, and a slot freed at
+-- the last generation is
+-- never used again.
+use mathlib.Core.Path.{_≡_, sym, ap, subst, _∙_}
 use mathlib.Core.Bool.{true, false}
-use mathlib.Core.List.{List, [], _∷_}
-use mathlib.Core.Logic.{_⊎_}
+use mathlib.Core.List.{List}
+use mathlib.Core.Logic.{_⊎_, ⊎-elim}
 use Prim.Native.Nat.{ℕ, _+_, _/_, _%_, _≤_}
 use native.Mathlib.Omega.{arith}
 use Rattle.rules.specs.declared.Call.the-variants.{Create, Delete}
-use Rattle.rules.specs.Machine.{Tables, slotOf, isLive, names}
+use Rattle.rules.specs.Numbers.{maxGeneration}
+use Rattle.rules.specs.Machine.{Slot, Tables, slotOf, isLive, names}
 use Rattle.rules.specs.Calls.{Outcome, openSlot, step}
 use Rattle.rules.specs.Runs.{Request, after}
+use Rattle.rules.specs.Promises.{NeverAgain, Retired}
+use Rattle.laws.proofs.Choose.{tested, never}
 use Rattle.rules.proofs.History.CallsForward.{run-forward}
-use Rattle.rules.proofs.History.Used.{Used, Ended, named-names, named-used, ended-unnamed, used-stays, ended-stays, named-or-ended}
-use Rattle.rules.proofs.History.Done.{Created, create-done, delete-done, id-parts}
+use Rattle.rules.proofs.History.Used.{Used, Ended, names-named, named-names, named-used, ended-unnamed, used-stays, ended-stays, named-or-ended}
+use Rattle.rules.proofs.History.Unnamed.{unnamed-refused}
+use Rattle.rules.proofs.History.Done.{Created, create-done, deleted-ended, delete-done, ident-done, id-parts}
 
 -- what a run leaves of a used and of an ended identifier
 pub used-after : (t : Tables) (id : ℕ) (requests : List Request) → Used t id → Used (after t requests) id
@@ -49,37 +55,97 @@ module _ (t : Tables) (o : Outcome) (c : Created t o) where
     generation = subst (λ (n : ℕ). slotOf (o .tables) n .generation ≡ o .answer .value / 65536) (sym (parts .0)) (omega (arith, c .generation, parts .1));
   })
 
--- a deleted semaphore's identifier names nothing, whatever is called afterwards
-pub deleted-never-names : (t : Tables) (caller id : ℕ) (requests : List Request) → step t (Delete caller id) [] .answer .status ≡ 0
-    → names (after (step t (Delete caller id) [] .tables) requests) id ≡ false
-deleted-never-names t caller id requests e =
-    ended-unnamed _ id (ended-after (step t (Delete caller id) [] .tables) id requests (delete-done t caller id e .ended))
+-- ---- over any calls between, and with any priorities beside each call
 
--- an identifier that named a semaphore once is never given again
-pub created-is-new : (t : Tables) (id : ℕ) (requests : List Request) (caller name count attributes : ℕ) → names t id ≡ true
-    → step (after t requests) (Create caller name count attributes) [] .answer .status ≡ 0
-    → step (after t requests) (Create caller name count attributes) [] .answer .value ≡ id → ⊥
-created-is-new t id requests caller name count attributes n e v =
-    created-unused (after t requests) _ (create-done (after t requests) caller name count attributes e)
+-- a deleted semaphore's identifier names nothing, whatever is called afterwards
+pub deleted-never-names : (t : Tables) (caller id : ℕ) (priorities : List ℕ) (requests : List Request)
+    → step t (Delete caller id) priorities .answer .status ≡ 0 → names (after (step t (Delete caller id) priorities .tables) requests) id ≡ false
+deleted-never-names t caller id priorities requests e =
+    ended-unnamed _ id (ended-after _ id requests (deleted-ended (delete-done t caller id priorities e)))
+
+-- an identifier that names nothing, and that no create gives
+never-again : (t : Tables) (id : ℕ) → names t id ≡ false
+    → ((o : Outcome) → Created t o → o .answer .value ≡ id → ⊥) → NeverAgain (λ call priorities. step t call priorities .answer) id
+never-again t id n fresh =
+    record {
+      notCreated = λ caller name count attributes priorities s. fresh _ (create-done t caller name count attributes priorities s);
+      notFound = λ name priorities s v. never (subst (λ (x : ℕ). names t x ≡ true) v (ident-done t name priorities s)) n;
+      refused = unnamed-refused t id n;
+    }
+
+-- an identifier that was used and names nothing never comes back
+used-never-again : (t : Tables) (id : ℕ) → Used t id → names t id ≡ false → NeverAgain (λ call priorities. step t call priorities .answer) id
+used-never-again t id u n = never-again t id n (λ o c v. created-unused t o c (subst (Used t) (sym v) u))
+
+-- a deleted identifier is given by no later create or ident, and no later call that takes it is served
+pub deleted-never-again : (t : Tables) (caller id : ℕ) (priorities : List ℕ) (requests : List Request)
+    → step t (Delete caller id) priorities .answer .status ≡ 0
+    → let t′ = after (step t (Delete caller id) priorities .tables) requests in NeverAgain (λ call priorities. step t′ call priorities .answer) id
+deleted-never-again t caller id priorities requests e =
+    let d = ended-after _ id requests (deleted-ended (delete-done t caller id priorities e)) in
+    used-never-again _ id (d .used) (ended-unnamed _ id d)
+
+-- an identifier that named a semaphore once is never given by a create again
+pub created-is-new : (t : Tables) (id : ℕ) (requests : List Request) (caller name count attributes : ℕ) (priorities : List ℕ) → names t id ≡ true
+    → let a = step (after t requests) (Create caller name count attributes) priorities .answer in a .status ≡ 0 → a .value ≡ id → ⊥
+created-is-new t id requests caller name count attributes priorities n e v =
+    created-unused (after t requests) _ (create-done (after t requests) caller name count attributes priorities e)
     (subst (Used (after t requests)) (sym v) (used-after t id requests (named-used t id n)))
 
--- nor one that a delete has ended
-pub created-is-not-deleted : (t : Tables) (deleter id : ℕ) (requests : List Request) (caller name count attributes : ℕ)
-    → step t (Delete deleter id) [] .answer .status ≡ 0
-    → let t′ = after (step t (Delete deleter id) [] .tables) requests in
-    step t′ (Create caller name count attributes) [] .answer .status ≡ 0
-    → step t′ (Create caller name count attributes) [] .answer .value ≡ id → ⊥
-unfolding after
-created-is-not-deleted t deleter id requests caller name count attributes d =
-    created-is-new t id (record { call = Delete deleter id; priorities = [] } ∷ requests) caller name count attributes
-    (delete-done t deleter id d .named)
-
 -- no two creates of a run give the same identifier
-pub created-once : (t : Tables) (caller name count attributes : ℕ) (requests : List Request) (caller′ name′ count′ attributes′ : ℕ)
-    → step t (Create caller name count attributes) [] .answer .status ≡ 0
-    → let t′ = after (step t (Create caller name count attributes) [] .tables) requests in
-    step t′ (Create caller′ name′ count′ attributes′) [] .answer .status ≡ 0
-    → step t′ (Create caller′ name′ count′ attributes′) [] .answer .value ≡ step t (Create caller name count attributes) [] .answer .value → ⊥
-created-once t caller name count attributes requests caller′ name′ count′ attributes′ e =
-    created-is-new (step t (Create caller name count attributes) [] .tables) _ requests caller′ name′ count′ attributes′
-    (created-named t _ (create-done t caller name count attributes e))
+pub created-once : (t : Tables) (caller name count attributes : ℕ) (priorities : List ℕ) (requests : List Request) (caller′ name′ count′ attributes′ : ℕ)
+    (priorities′ : List ℕ)
+    → let o = step t (Create caller name count attributes) priorities in o .answer .status ≡ 0
+    → let a = step (after (o .tables) requests) (Create caller′ name′ count′ attributes′) priorities′ .answer in a .status ≡ 0 → a .value ≡ o .answer .value → ⊥
+created-once t caller name count attributes priorities requests caller′ name′ count′ attributes′ priorities′ e =
+    created-is-new _ _ requests caller′ name′ count′ attributes′ priorities′
+    (created-named t _ (create-done t caller name count attributes priorities e))
+
+-- ---- a slot that was freed at the last generation
+
+-- a delete of a semaphore of the last generation retires its slot
+pub deleted-retires : (t : Tables) (caller id : ℕ) (priorities : List ℕ) → step t (Delete caller id) priorities .answer .status ≡ 0 → id / 65536 ≡ maxGeneration
+    → Retired (step t (Delete caller id) priorities .tables) (id % 65536)
+deleted-retires t caller id priorities e g =
+    let d = delete-done t caller id priorities e in
+    let n = names-named t id (d .named) in
+    record {
+      low = n .low;
+      high = omega (arith, n .high, d .sameSize);
+      free = ap isLive (d .slot);
+      spent = ap (λ (s : Slot). s .generation) (d .slot) ∙ g;
+    }
+
+pub retired-after : (t : Tables) (n : ℕ) (requests : List Request) → Retired t n → Retired (after t requests) n
+retired-after t n requests r =
+    let f = run-forward t requests (omega (arith, r .low, r .high)) in
+    let same = f .onward n .last (omega (arith, r .spent)) in
+    record {
+      low = r .low;
+      high = omega (arith, r .high, f .sameSize);
+      free =
+          ⊎-elim (λ (l : isLive (slotOf (after t requests) n) ≡ true). never (f .onward n .lives (sym same) l) (r .free))
+          (λ (l : isLive (slotOf (after t requests) n) ≡ false). l) (tested (isLive (slotOf (after t requests) n)));
+      spent = same ∙ r .spent;
+    }
+
+-- it is never used again: no identifier of that slot is given or taken
+pub retired-never-again : (t : Tables) (n : ℕ) → Retired t n → (requests : List Request) (id : ℕ) → id % 65536 ≡ n
+    → NeverAgain (λ call priorities. step (after t requests) call priorities .answer) id
+retired-never-again t n r requests id e = never-again t′ id unnamed fresh
+  where
+    t′ : Tables
+    t′ = after t requests
+
+    stays : Retired t′ n
+    stays = retired-after t n requests r
+
+    unnamed : names t′ id ≡ false
+    unnamed =
+        ⊎-elim (λ (y : names t′ id ≡ true). never (subst (λ (k : ℕ). isLive (slotOf t′ k) ≡ true) e (names-named t′ id y .lives)) (stays .free))
+        (λ (y : names t′ id ≡ false). y) (tested (names t′ id))
+
+    fresh : (o : Outcome) → Created t′ o → o .answer .value ≡ id → ⊥
+    fresh o c v =
+        let at : openSlot t′ ≡ n = sym (parts t′ o c .0) ∙ ap (λ (x : ℕ). x % 65536) v ∙ e in
+        omega (arith, c .young, stays .spent, ap (λ (k : ℕ). slotOf t′ k .generation) at)

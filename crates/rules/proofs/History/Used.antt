@@ -75,7 +75,8 @@ module _ {t t′ : Tables} (f : Forward t t′) (id : ℕ) where
 
   -- a name lasts until it ends
   pub named-or-ended : names t id ≡ true → (names t′ id ≡ true) ⊎ Ended t′ id
-  named-or-ended e = ⊎-elim (λ (y : names t′ id ≡ true). inl y) (λ (y : names t′ id ≡ false). inr (record { used = u; gone = λ g. gone y g })) (tested (names t′ id))
+  named-or-ended e =
+      ⊎-elim (λ (y : names t′ id ≡ true). inl y) (λ (y : names t′ id ≡ false). inr (record { used = u; gone = λ g. gone y g })) (tested (names t′ id))
     where
       u : Used t′ id
       u = used-stays (named-used t id e)

@@ -15,13 +15,17 @@ use Rattle.laws.proofs.All.{all-at, all-of}
 use Rattle.rules.specs.declared.Task.{Task}
 use Rattle.rules.specs.Numbers.{maxTasks, maxSlots, allowed, byPriority, isBinary}
 use Rattle.rules.specs.Machine.{Slot, Tables, unstarted, taskOf, slotOf, waits, isLive, idOf}
-use Rattle.rules.specs.Agreement.{Agrees, agrees, sizesFit, numbersFit, answersFit, liveNamed, attributesAllowed, waitersQueued, queuesWait, queuesOrdered, queuedAtZero, binariesOwned, othersUnowned, readyAtRest, freeSlotsClear, eachLive, taskInLimits, answerFits, isQueuedOnce, isAtRest, slotInLimits, isNamedRight, allWaitOn, isOrdered, isZeroWhereQueued, isOwnedRight, isUnowned, isClear}
+use Rattle.rules.specs.Agreement.{Agrees, agrees, sizesFit, numbersFit, answersFit, liveNamed, attributesAllowed, waitersQueued, queuesWait}
+use Rattle.rules.specs.Agreement.{queuesOrdered, queuedAtZero, binariesOwned, othersUnowned, readyAtRest, freeSlotsClear, eachLive}
+use Rattle.rules.specs.Agreement.{taskInLimits, answerFits, isQueuedOnce, isAtRest, slotInLimits, isNamedRight, allWaitOn, isOrdered}
+use Rattle.rules.specs.Agreement.{isZeroWhereQueued, isOwnedRight, isUnowned, isClear}
 
 pub agrees-true : (t : Tables) → Agrees t → agrees t ≡ true
 unfolding agrees
 agrees-true t a =
     both-and (a .sizes) (both-and (a .numbers) (both-and (a .answers) (both-and (a .named) (both-and (a .attributed)
-    (both-and (a .waiters) (both-and (a .queues) (both-and (a .ordered) (both-and (a .atZero) (both-and (a .owned) (both-and (a .unowned) (both-and (a .atRest) (a .clear))))))))))))
+    (both-and (a .waiters)
+    (both-and (a .queues) (both-and (a .ordered) (both-and (a .atZero) (both-and (a .owned) (both-and (a .unowned) (both-and (a .atRest) (a .clear))))))))))))
 
 pub true-agrees : (t : Tables) → agrees t ≡ true → Agrees t
 unfolding agrees

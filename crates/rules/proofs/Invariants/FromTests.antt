@@ -14,7 +14,8 @@ use Rattle.rules.specs.Machine.{Tables, noTask, freeSlot, slotOf, waits,
 use Rattle.rules.specs.Agreement.{Agrees, isWaiter, occurs}
 use Rattle.rules.proofs.Invariants.Lists.{ascending-of, bit-yes, bit-no, occurs-not}
 use Rattle.rules.proofs.Invariants.Agreeing.{LiveAgrees, ItemsAgree, sizes-within, agrees-items}
-use Rattle.rules.proofs.Invariants.Facts.{nthTask, nthSlot, waitsOn, TaskFits, Unheld, Held, Unowned, LiveFits, FreeFits, SlotFits, Names, Counted, Facts, none-fits, free-fits, everywhere, waits-within, live-within}
+use Rattle.rules.proofs.Invariants.Facts.{nthTask, nthSlot, waitsOn, TaskFits, Unheld, Held, Unowned, LiveFits, FreeFits, SlotFits, Names}
+use Rattle.rules.proofs.Invariants.Facts.{Counted, Facts, none-fits, free-fits, everywhere, waits-within, live-within}
 
 -- an identifier that names a live semaphore is that of a live slot
 pub named-of : (t : Tables) (id : ℕ) → names t id ≡ true → Names (nthSlot t) id

@@ -40,7 +40,8 @@ module _ (t : Tables) (f : Facts t) where
   below j l = omega (arith, live-within t j l, sizes-within t (f .sizes) .slots)
 
   -- the tasks ws leave the queue of slot j and are woken; the slot becomes s
-  module _ (j : ℕ) (s : Slot) (ws : List ℕ) (a : ℕ) (l : isLive (nthSlot t j) ≡ true) (ends : isEnding a ≡ true) (fits : SlotFits (length (t .tasks)) (urgency t) s)
+  module _ (j : ℕ) (s : Slot) (ws : List ℕ) (a : ℕ) (l : isLive (nthSlot t j) ≡ true) (ends : isEnding a ≡ true)
+      (fits : SlotFits (length (t .tasks)) (urgency t) s)
       (generation : s .generation ≡ nthSlot t j .generation) (parts : (q : ℕ) → occurs q (nthSlot t j .queue) ≡ occurs q ws + occurs q (s .queue))
       (stays : (i : ℕ) → 1 ≤ occurs (suc i) (s .queue) → isLive s ≡ true) where
     waiter : (i : ℕ) → 1 ≤ occurs (suc i) ws → waitsOn (nthTask t i) (idOf (suc j) (nthSlot t j)) ≡ true
@@ -122,7 +123,8 @@ module _ (t : Tables) (f : Facts t) where
   created j s h free fits empty =
       facts-step t (putSlot t (suc j) s) f refl (length-set (t .slots) j s) (λ i. refl) (f .tasks)
       (set-all (SlotFits (length (t .tasks)) (urgency t)) (t .slots) j s (freeSlot 0) (f .slots) fits)
-      (opened (nthTask t) (nthSlot t) below (f .linked) (nthSlot (putSlot t (suc j) s)) j s (set-updated (t .slots) j s (freeSlot 0) h) (omega (arith, sizes-within t (f .sizes) .slots)) free empty)
+      (opened (nthTask t) (nthSlot t) below (f .linked) (nthSlot (putSlot t (suc j) s)) j s (set-updated (t .slots) j s (freeSlot 0) h)
+      (omega (arith, sizes-within t (f .sizes) .slots)) free empty)
 
   -- task c, which did not wait, joins the queue of slot j, which becomes s
   pub waited : (c j : ℕ) (v : Task) (s : Slot) → c < length (t .tasks) → waits (nthTask t c) ≡ false → isLive (nthSlot t j) ≡ true

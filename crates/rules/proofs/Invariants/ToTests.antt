@@ -64,7 +64,8 @@ module _ (t : Tables) (f : Facts t) where
       (λ u. or-first _ _ (both-and (eq-eqb _ _ (u .count)) (both-and (eq-eqb _ _ (u .owner)) (eq-eqb _ _ (u .nest)))))
       (λ u.
       or-second _ _
-      (both-and (eq-eqb _ _ (u .count)) (both-and (both-and (le-leb _ _ (u .task)) (le-leb _ _ (u .most))) (both-and (eq-eqb _ _ (u .apart)) (le-leb _ _ (u .nest))))))
+      (both-and (eq-eqb _ _ (u .count))
+      (both-and (both-and (le-leb _ _ (u .task)) (le-leb _ _ (u .most))) (both-and (eq-eqb _ _ (u .apart)) (le-leb _ _ (u .nest))))))
 
   live : (j : ℕ) → isLive (nthSlot t j) ≡ true → LiveAgrees t (suc j) (nthSlot t j)
   live j l =

@@ -4,11 +4,13 @@ use mathlib.Core.Path.{_≡_, refl}
 use Prim.Native.Nat.{_<_}
 use native.Mathlib.Omega.{arith}
 use Rattle.rules.specs.Machine.{slotOf}
+use Rattle.rules.proofs.Searching.{Hit, isOpen}
+use Rattle.rules.proofs.History.Passed.{open-young}
 use Rattle.tables.specs.Layout.{modelOf}
 use Rattle.calls.proofs.Agreeing.{sized}
 use Rattle.calls.proofs.Doing.{does, refuses}
-use Rattle.calls.proofs.Searching.{FoundSlot, generation-read}
-use Rattle.calls.proofs.Making.{opened, open-young, create-refused, create-done}
+use Rattle.calls.proofs.Searching.{FoundSlot, hit-slot, generation-read}
+use Rattle.calls.proofs.Making.{opened, create-refused, create-done}
 use Rattle.calls.proofs.create.create.Statement.{statement}
 use Rattle.calls.proofs.create.create.Tie as tie
 
@@ -22,7 +24,8 @@ returns : tie.Need-returns
 returns c =
     let s = c .before .before .before .before in
     let a = s .args in
-    refuses (s .pre) _ (create-refused (modelOf (a .m .now)) (a .caller) (a .name) (a .count) (a .attributes) _ (c .before .create-refusal .ensures) (c .if1 .taken)) _ refl refl
+    refuses (s .pre) _ (create-refused (modelOf (a .m .now)) (a .caller) (a .name) (a .count) (a .attributes) _ (c .before .create-refusal .ensures)
+    (c .if1 .taken)) _ refl refl
 
 open-slot-requires : tie.Need-open-slot-requires
 open-slot-requires c κs = sized (c .before .before .before .before .before .pre)
@@ -31,23 +34,25 @@ abbrev start : tie.After-open-slot → tie.Start
 start c = c .before .before .before .before .before .before
 
 -- the slot that was found
-found : (c : tie.After-open-slot) → FoundSlot (start c .args .m .now) (c .open-slot .result)
-found c =
+hit : (c : tie.After-open-slot) → Hit isOpen (modelOf (start c .args .m .now) .slots) 0 (c .open-slot .result)
+hit c =
     let a = start c .args in
-    opened (a .m .now) (sized (start c .pre)) (a .caller) (a .name) (a .count) (a .attributes) _ _ (c .before .before .before .create-refusal .ensures) (c .before .before .if1 .left) (c .open-slot .ensures)
+    opened (modelOf (a .m .now)) (a .caller) (a .name) (a .count) (a .attributes) _ (c .before .before .before .create-refusal .ensures)
+    (c .before .before .if1 .left) _ (c .open-slot .ensures)
+
+found : (c : tie.After-open-slot) → FoundSlot (start c .args .m .now) (c .open-slot .result)
+found c = hit-slot (sized (start c .pre)) (hit c)
 
 -- its generation, which can be raised
-generation : (c : tie.After-slot-generation) → c .slot-generation .result ≡ slotOf (modelOf (start (c .before .before) .args .m .now)) (c .before .before .open-slot .result) .generation
+generation : (c : tie.After-slot-generation)
+    → c .slot-generation .result ≡ slotOf (modelOf (start (c .before .before) .args .m .now)) (c .before .before .open-slot .result) .generation
 generation c =
     let f = found (c .before .before) in
-    generation-read (start (c .before .before) .args .m .now) (c .before .before .open-slot .result) (c .slot-generation .result) (f .low) (f .high) (c .slot-generation .ensures)
+    generation-read (start (c .before .before) .args .m .now) (c .before .before .open-slot .result) (c .slot-generation .result) (f .low) (f .high)
+    (c .slot-generation .ensures)
 
 young : (c : tie.After-slot-generation) → c .slot-generation .result < 65535
-young c =
-    let o = c .before .before in
-    let a = start o .args in
-    open-young (modelOf (a .m .now)) (a .caller) (a .name) (a .count) (a .attributes) _ (o .open-slot .result)
-    (o .before .before .before .create-refusal .ensures) (o .before .before .if1 .left) (o .open-slot .ensures) (c .slot-generation .result) (generation c)
+young c = omega (arith, generation c, open-young (modelOf (start (c .before .before) .args .m .now)) (hit (c .before .before)))
 
 sub-slot-generation : tie.Need-sub-slot-generation
 sub-slot-generation c = found (c .before) .low
@@ -83,7 +88,8 @@ returns-2 c =
     let a = start o .args in
     let t = modelOf (a .m .now) in
     does 0 _ _
-    (create-done t (a .caller) (a .name) (a .count) (a .attributes) _ (o .before .before .before .create-refusal .ensures) (o .before .before .if1 .left) _ _ (o .open-slot .ensures) (generation g))
+    (create-done t (a .caller) (a .name) (a .count) (a .attributes) _ (o .before .before .before .create-refusal .ensures)
+    (o .before .before .if1 .left) _ _ (o .open-slot .ensures) (generation g))
     _ refl refl
     (c .before .before .put-slot .ensures t _ (start o .pre .same) (c .before .before .before .before .created .ensures) (found o .high))
 

@@ -23,7 +23,8 @@ is-simple-requires c κs = search needs
 returns-3 : tie.Need-returns-3
 returns-3 c =
     let first = c .before .before .before .before .args in
-    count-great (first .attributes) (first .count) (omega arith) _ (failing _ (sym (c .before .before .is-binary .ensures) ∙ c .before .if2 .left) (c .is-simple .ensures))
+    count-great (first .attributes) (first .count) (omega arith) _
+    (failing _ (sym (c .before .before .is-binary .ensures) ∙ c .before .if2 .left) (c .is-simple .ensures))
 
 pub is-count-over-spec : {M : Type 1} → statement M
 is-count-over-spec = tie.close (tie.spec returns is-binary-requires returns-2 is-simple-requires returns-3)

@@ -39,7 +39,8 @@ returns-2 : tie.Need-returns-2
 returns-2 c =
     let e = c .before .before .before .before .before in
     refuses (start e .pre) _
-    (delete-owned (start e .args .caller) (e .enter .ensures) (e .before .before .task-only .ensures) (c .before .before .before .if1 .left) (sym (c .before .is-owned .ensures) ∙ c .if2 .taken))
+    (delete-owned (start e .args .caller) (e .enter .ensures) (e .before .before .task-only .ensures) (c .before .before .before .if1 .left)
+    (sym (c .before .is-owned .ensures) ∙ c .if2 .taken))
     _ refl refl
 
 free-requires : tie.Need-free-requires
@@ -58,8 +59,12 @@ wake-all-requires : tie.Need-wake-all-requires
 wake-all-requires c κs =
     let e = c .before .before .before .before .before .before .before .before .before .before .before .before .before in
     let f = e .enter .ensures .found (c .before .before .before .before .before .before .before .before .before .before .before .if1 .left) in
-    let a = start e .pre .agrees in
-    (omega (arith, sized (start e .pre) .long, c .before .before .before .before .before .put-slot .kept), f .stands .padded .few, λ k h. waiter-tasks a f k h .0, λ k h. waiter-few a f k h)
+    let a = start e .pre .agrees in (
+      omega (arith, sized (start e .pre) .long, c .before .before .before .before .before .put-slot .kept),
+      f .stands .padded .few,
+      λ k h. waiter-tasks a f k h .0,
+      λ k h. waiter-few a f k h,
+    )
 
 same-length-3 : tie.Need-same-length-3
 same-length-3 c = search needs
@@ -72,9 +77,12 @@ returns-3 c =
     let f = e .enter .ensures .found z in
     let free = freeSlot (e .enter .result .semaphore .generation) in
     does 0 0 _
-    (delete-done (start e .args .caller) (e .enter .ensures) (e .before .before .task-only .ensures) z (sym (c .before .before .before .before .before .before .before .before .before .before .before .before .is-owned .ensures) ∙ c .before .before .before .before .before .before .before .before .before .before .before .if2 .left))
+    (delete-done (start e .args .caller) (e .enter .ensures) (e .before .before .task-only .ensures) z
+    (sym (c .before .before .before .before .before .before .before .before .before .before .before .before .is-owned .ensures)
+    ∙ c .before .before .before .before .before .before .before .before .before .before .before .if2 .left))
     _ refl refl
-    (emptied-laid (start e .pre .agrees) f free 7 (put .put-slot .ensures (modelOf (start e .args .m .now)) free (start e .pre .same) (put .before .before .free .ensures .1) (f .high))
+    (emptied-laid (start e .pre .agrees) f free 7
+    (put .put-slot .ensures (modelOf (start e .args .m .now)) free (start e .pre .same) (put .before .before .free .ensures .1) (f .high))
     (c .before .before .wake-all .ensures))
 
 pub delete-spec : {M : Type 1} → statement M

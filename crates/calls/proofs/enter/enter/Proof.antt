@@ -31,7 +31,9 @@ returns-2 c =
     let start = c .before .before .before .before .before in
     let r = c .refused2 .ensures in
     record {
-      refusal = r ∙ sym (if-yes _ _ (eq-eqb _ 0 (c .before .before .before .if1 .left)) ∙ if-no _ _ (unnamed (start .pre) (start .args .id) (named .result) (named .ensures) (c .before .if2 .taken)));
+      refusal =
+          r ∙ sym (if-yes _ _ (eq-eqb _ 0 (c .before .before .before .if1 .left))
+          ∙ if-no _ _ (unnamed (start .pre) (start .args .id) (named .result) (named .ensures) (c .before .if2 .taken)));
       found = λ z. absurd (omega arith);
     }
 

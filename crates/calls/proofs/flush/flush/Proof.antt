@@ -47,8 +47,12 @@ wake-all-requires : tie.Need-wake-all-requires
 wake-all-requires c κs =
     let e = c .before .before .before .before .before .before .before .before .before .before .before .before in
     let f = e .enter .ensures .found (c .before .before .before .before .before .before .before .before .before .before .if1 .left) in
-    let a = start e .pre .agrees in
-    (omega (arith, sized (start e .pre) .long, c .before .before .before .before .before .put-slot .kept), f .stands .padded .few, λ k h. waiter-tasks a f k h .0, λ k h. waiter-few a f k h)
+    let a = start e .pre .agrees in (
+      omega (arith, sized (start e .pre) .long, c .before .before .before .before .before .put-slot .kept),
+      f .stands .padded .few,
+      λ k h. waiter-tasks a f k h .0,
+      λ k h. waiter-few a f k h,
+    )
 
 same-length-2 : tie.Need-same-length-2
 same-length-2 c = search needs
@@ -62,7 +66,9 @@ returns-2 c =
     let t = modelOf (start e .args .m .now) in
     let left = flushStep (slotOf t (e .enter .result .slot)) in
     let flushed = c .before .before .before .before .before .before .before .before .before .before .before .flush in
-    let stands : Stands (flushed .result .semaphore) left = subst (λ (y : Slot). Stands (flushed .result .semaphore) (flushStep y)) (f .stands .same) (flushed .ensures .semaphore) in
+    let stands : Stands (flushed .result .semaphore) left =
+    subst (λ (y : Slot). Stands (flushed .result .semaphore) (flushStep y)) (f .stands .same) (flushed .ensures .semaphore)
+    in
     does 0 0 _ (flush-done (start e .args .caller) (e .enter .ensures) (e .before .before .any-caller .ensures) z) _ refl refl
     (emptied-laid (start e .pre .agrees) f left 13 (put .put-slot .ensures t left (start e .pre .same) stands (f .high)) (c .before .before .wake-all .ensures))
 

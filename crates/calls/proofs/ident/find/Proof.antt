@@ -3,10 +3,11 @@ use borrow.Author.Needs.{needs}
 use mathlib.Core.Path.{_≡_, refl}
 use native.Mathlib.Omega.{arith}
 use Rattle.rules.specs.Machine.{slotOf}
+use Rattle.rules.proofs.Searching.{named-hit}
 use Rattle.tables.specs.Layout.{modelOf}
 use Rattle.calls.proofs.Agreeing.{sized}
 use Rattle.calls.proofs.Doing.{does, refuses}
-use Rattle.calls.proofs.Searching.{FoundSlot, named-slot, generation-read}
+use Rattle.calls.proofs.Searching.{FoundSlot, hit-slot, generation-read}
 use Rattle.calls.proofs.Reading.{generation-few, ident-nameless, ident-unknown, ident-known}
 use Rattle.calls.proofs.ident.find.Statement.{statement}
 use Rattle.calls.proofs.ident.find.Tie as tie
@@ -28,12 +29,14 @@ returns-2 c =
 found : (c : tie.Else2) → FoundSlot (c .before .before .before .before .args .m .now) (c .before .first-named .result)
 found c =
     let s = c .before .before .before .before in
-    named-slot (s .args .m .now) (sized (s .pre)) (s .args .name) _ (c .before .first-named .ensures) (c .if2 .left)
+    hit-slot (sized (s .pre)) (named-hit (modelOf (s .args .m .now)) (s .args .name) _ (c .before .first-named .ensures) (c .if2 .left))
 
-generation : (c : tie.After-slot-generation) → c .slot-generation .result ≡ slotOf (modelOf (c .before .before .before .before .before .args .m .now)) (c .before .before .first-named .result) .generation
+generation : (c : tie.After-slot-generation)
+    → c .slot-generation .result ≡ slotOf (modelOf (c .before .before .before .before .before .args .m .now)) (c .before .before .first-named .result) .generation
 generation c =
     let f = found (c .before) in
-    generation-read (c .before .before .before .before .before .args .m .now) (c .before .before .first-named .result) (c .slot-generation .result) (f .low) (f .high) (c .slot-generation .ensures)
+    generation-read (c .before .before .before .before .before .args .m .now) (c .before .before .first-named .result) (c .slot-generation .result) (f .low)
+    (f .high) (c .slot-generation .ensures)
 
 sub-slot-generation : tie.Need-sub-slot-generation
 sub-slot-generation c = search needs
@@ -48,7 +51,14 @@ mul-t6 : tie.Need-mul-t6
 mul-t6 c = omega (arith, generation c, generation-few _ (c .before .before .before .before .before .pre .agrees) (c .before .before .first-named .result))
 
 add-t8 : tie.Need-add-t8
-add-t8 c = omega (arith, generation c, generation-few _ (c .before .before .before .before .before .pre .agrees) (c .before .before .first-named .result), found (c .before) .most)
+add-t8 c =
+    omega (
+      arith,
+      generation c,
+      generation-few _ (c .before .before .before .before .before .pre .agrees) (c .before .before .first-named .result),
+      found
+          (c .before) .most,
+    )
 
 returns-3 : tie.Need-returns-3
 returns-3 c =

@@ -9,7 +9,8 @@ use Rattle.tables.specs.Layout.{laid, modelOf}
 use Rattle.calls.proofs.Agreeing.{sized, tasks-few}
 use Rattle.calls.proofs.Doing.{does, refuses}
 use Rattle.calls.proofs.Entering.{slot-few, room}
-use Rattle.calls.proofs.Obtaining.{taking, took, obtain-refused, ready-task, place-few, taken-slot, obtain-unsatisfied, obtain-took, obtain-queued, queued-laid}
+use Rattle.calls.proofs.Obtaining.{taking, took, obtain-refused, ready-task, place-few, taken-slot, obtain-unsatisfied, obtain-took}
+use Rattle.calls.proofs.Obtaining.{obtain-queued, queued-laid}
 use Rattle.calls.proofs.obtain.obtain.Statement.{statement}
 use Rattle.calls.proofs.obtain.obtain.Tie as tie
 
@@ -28,13 +29,17 @@ who c =
     let e = entered c in
     ready-task (start e .args .caller) (e .before .before .task-only .ensures) (e .enter .ensures) (c .before .before .before .before .if1 .left)
 
-taken : (c : tie.After-take) → TakenIs (c .take .result) (taking (modelOf (start (entered c) .args .m .now)) (entered c .enter .result .slot) (start (entered c) .args .caller) (start (entered c) .args .wait))
+taken : (c : tie.After-take)
+    → TakenIs (c .take .result) (taking (modelOf (start (entered c) .args .m .now)) (entered c .enter .result .slot) (start (entered c) .args .caller) (start (entered c) .args .wait))
 taken c =
     let e = entered c in
-    taken-slot (start e .args .caller) (e .before .before .task-only .ensures) (e .enter .ensures) (c .before .before .before .before .if1 .left) _ (c .before .place-of .ensures) (start e .args .wait) (c .take .ensures)
+    taken-slot (start e .args .caller) (e .before .before .task-only .ensures) (e .enter .ensures) (c .before .before .before .before .if1 .left) _
+    (c .before .place-of .ensures) (start e .args .wait) (c .take .ensures)
 
 -- the bytes with the slot as it was taken
-stored : (c : tie.After-put-slot) → let e = entered (taking-of c) in c .put-slot .last .0 ≡ laid (took (modelOf (start e .args .m .now)) (e .enter .result .slot) (start e .args .caller) (start e .args .wait))
+stored : (c : tie.After-put-slot) → let e =
+    entered (taking-of c) in c .put-slot .last .0 ≡ laid
+    (took (modelOf (start e .args .m .now)) (e .enter .result .slot) (start e .args .caller) (start e .args .wait))
 stored c =
     let k = taking-of c in
     let e = entered k in
@@ -52,7 +57,8 @@ same-length c = search needs
 returns : tie.Need-returns
 returns c =
     let e = c .before .before in
-    refuses (start e .pre) _ (obtain-refused (start e .args .caller) (e .before .before .task-only .ensures) (e .enter .ensures) (start e .args .wait) (c .if1 .taken)) _ refl refl
+    refuses (start e .pre) _
+    (obtain-refused (start e .args .caller) (e .before .before .task-only .ensures) (e .enter .ensures) (start e .args .wait) (c .if1 .taken)) _ refl refl
 
 place-of-requires : tie.Need-place-of-requires
 place-of-requires c κs =
@@ -78,7 +84,8 @@ returns-2 c =
     let k = c .before in
     let e = entered k in
     refuses (start e .pre) _
-    (obtain-unsatisfied (start e .args .caller) (e .before .before .task-only .ensures) (e .enter .ensures) (k .before .before .before .before .if1 .left) (start e .args .wait) (taken k) (c .if2 .taken))
+    (obtain-unsatisfied (start e .args .caller) (e .before .before .task-only .ensures) (e .enter .ensures) (k .before .before .before .before .if1 .left)
+    (start e .args .wait) (taken k) (c .if2 .taken))
     _ refl refl
 
 put-slot-requires : tie.Need-put-slot-requires
@@ -97,7 +104,8 @@ returns-3 c =
     let k = taking-of put in
     let e = entered k in
     does 0 0 _
-    (obtain-took (start e .args .caller) (e .before .before .task-only .ensures) (e .enter .ensures) (k .before .before .before .before .if1 .left) (start e .args .wait) (taken k)
+    (obtain-took (start e .args .caller) (e .before .before .task-only .ensures) (e .enter .ensures) (k .before .before .before .before .if1 .left)
+    (start e .args .wait) (taken k)
     (put .before .before .before .if2 .left) (c .if3 .taken))
     _ refl refl (stored put)
 
@@ -135,12 +143,14 @@ returns-4 c =
     let s = start e in
     let block = c .before .before .before .before in
     does 100 0 _
-    (obtain-queued (s .args .caller) (e .before .before .task-only .ensures) (e .enter .ensures) (k .before .before .before .before .if1 .left) (s .args .wait) (taken k)
+    (obtain-queued (s .args .caller) (e .before .before .task-only .ensures) (e .enter .ensures) (k .before .before .before .before .if1 .left)
+    (s .args .wait) (taken k)
     (put .before .before .before .if2 .left) (c .before .before .before .before .before .before .before .before .if3 .left))
     _ refl refl
     (queued-laid (modelOf (s .args .m .now)) (e .enter .result .slot) (s .args .caller) (s .args .id) (s .args .wait) (s .pre .agrees) (who k)
     (λ i. omega (arith, c .before .before .before .before .before .before .before .before .before .slice-known2 .given i)) (stored put)
-    _ _ (block .before .before .load-task .ensures) (block .blocked .ensures (s .args .wait) (block .before .ticks-of .ensures)) (c .before .before .put-task .ensures))
+    _ _ (block .before .before .load-task .ensures) (block .blocked .ensures (s .args .wait) (block .before .ticks-of .ensures))
+    (c .before .before .put-task .ensures))
 
 pub obtain-spec : {M : Type 1} → statement M
 obtain-spec =

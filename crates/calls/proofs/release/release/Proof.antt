@@ -26,13 +26,15 @@ abbrev giving : tie.After-put-slot → tie.After-give
 giving c = c .before .before .before .before
 
 -- the bytes with the slot as it was given
-stored : (c : tie.After-put-slot) → c .put-slot .last .0 ≡ laid (returned (modelOf (start (entered (giving c)) .args .m .now)) (entered (giving c) .enter .result .slot) (start (entered (giving c)) .args .caller))
+stored : (c : tie.After-put-slot)
+    → c .put-slot .last .0 ≡ laid (returned (modelOf (start (entered (giving c)) .args .m .now)) (entered (giving c) .enter .result .slot) (start (entered (giving c)) .args .caller))
 stored c =
     let g = giving c in
     let e = entered g in
     let z = g .before .before .if1 .left in
     c .put-slot .ensures _ _ (start e .pre .same)
-    (given-slot (start e .args .caller) (e .before .before .any-caller .ensures) (e .enter .ensures) z (g .give .ensures) .semaphore) (e .enter .ensures .found z .high)
+    (given-slot (start e .args .caller) (e .before .before .any-caller .ensures) (e .enter .ensures) z (g .give .ensures) .semaphore)
+    (e .enter .ensures .found z .high)
 
 any-caller-requires : tie.Need-any-caller-requires
 any-caller-requires c κs = sized (c .before .before .pre)
@@ -62,7 +64,8 @@ returns-2 c =
     let g = c .before in
     let e = entered g in
     refuses (start e .pre) _
-    (release-unsatisfied (start e .args .caller) (e .before .before .any-caller .ensures) (e .enter .ensures) (g .before .before .if1 .left) (g .give .ensures) (c .if2 .taken))
+    (release-unsatisfied (start e .args .caller) (e .before .before .any-caller .ensures) (e .enter .ensures) (g .before .before .if1 .left)
+    (g .give .ensures) (c .if2 .taken))
     _ refl refl
 
 put-slot-requires : tie.Need-put-slot-requires
@@ -90,8 +93,15 @@ wake-requires c κs =
     let put = c .before .before .before .before in
     let g = giving put in
     let e = entered g in
-    let few = woken-tasks (start e .args .caller) (e .before .before .any-caller .ensures) (e .enter .ensures) (g .before .before .if1 .left) (g .give .ensures) (start e .pre .agrees) in
-    (omega (arith, sized (start e .pre) .long, put .put-slot .kept), omega (arith, c .before .if3 .left), omega (arith, few, tasks-few _ (start e .pre .agrees)))
+    let few =
+    woken-tasks (start e .args .caller) (e .before .before .any-caller .ensures) (e .enter .ensures) (g .before .before .if1 .left) (g .give .ensures)
+    (start e .pre .agrees)
+    in (
+      omega (arith, sized (start e .pre) .long, put .put-slot .kept),
+      omega (arith, c .before .if3 .left),
+      omega
+          (arith, few, tasks-few _ (start e .pre .agrees)),
+    )
 
 same-length-4 : tie.Need-same-length-4
 same-length-4 c = search needs

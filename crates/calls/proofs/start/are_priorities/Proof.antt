@@ -41,8 +41,11 @@ loop-less c = search needs
 
 loop-again : tie.Need-loop-again Inv-loop μ-loop
 loop-again c =
-    let turn = c .before .before .before .before .loop in
-    (omega arith, all-more (turn .i) _ (turn .inv .1) (within-both 1 maxPriority (getD (c .before .before .before .before .before .args .priorities .now) (turn .i) 0) (omega arith) (omega arith)))
+    let turn = c .before .before .before .before .loop in (
+      omega arith,
+      all-more (turn .i) _ (turn .inv .1)
+          (within-both 1 maxPriority (getD (c .before .before .before .before .before .args .priorities .now) (turn .i) 0) (omega arith) (omega arith)),
+    )
 
 returns-3 : tie.Need-returns-3 Inv-loop μ-loop
 returns-3 c = all-through (length (c .before .before .args .priorities .now)) (c .before .loop .i) _ (c .before .loop .inv .1) (omega arith)

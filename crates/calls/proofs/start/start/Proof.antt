@@ -17,12 +17,15 @@ same-length c = search needs
 returns : tie.Need-returns
 returns c =
     let s = c .before .before .before .before .before in
-    refuses (s .pre) _ (start-refused (modelOf (s .args .m .now)) (s .args .slots) (s .args .priorities .now) _ (c .before .start-refusal .ensures) (c .if1 .taken)) _ refl refl
+    refuses (s .pre) _ (start-refused (modelOf (s .args .m .now)) (s .args .slots) (s .args .priorities .now) _ (c .before .start-refusal .ensures)
+    (c .if1 .taken)) _ refl refl
 
 start-tables-requires : tie.Need-start-tables-requires
 start-tables-requires c κs =
     let s = c .before .before .before .before .before .before in
-    let may = startable (modelOf (s .args .m .now)) (s .args .slots) (s .args .priorities .now) (sym (c .before .before .start-refusal .ensures) ∙ c .before .if1 .left) in
+    let may =
+    startable (modelOf (s .args .m .now)) (s .args .slots) (s .args .priorities .now) (sym (c .before .before .start-refusal .ensures) ∙ c .before .if1 .left)
+    in
     (sized (s .pre) .long, may .room, may .few)
 
 same-length-2 : tie.Need-same-length-2
@@ -35,7 +38,8 @@ returns-2 c =
     let asked = c .before .before .before .before .before .start-refusal .ensures in
     let z = c .before .before .before .before .if1 .left in
     let fresh = not-started t (s .pre .agrees) (startable t (s .args .slots) (s .args .priorities .now) (sym asked ∙ z) .fresh) in
-    does 0 0 _ (start-done t (s .args .slots) (s .args .priorities .now) _ asked z) _ refl refl (c .before .before .start-tables .ensures (s .pre .same ∙ ap laid fresh))
+    does 0 0 _ (start-done t (s .args .slots) (s .args .priorities .now) _ asked z) _ refl refl
+    (c .before .before .start-tables .ensures (s .pre .same ∙ ap laid fresh))
 
 pub start-spec : {M : Type 1} → statement M
 start-spec = tie.close (tie.spec start-refusal-requires same-length returns start-tables-requires same-length-2 returns-2)

@@ -5,7 +5,8 @@ use native.Mathlib.Omega.{arith}
 use borrow.Author.Tests.{not-true, not-false}
 use lib.ListN.{length}
 use Rattle.laws.proofs.Choose.{both-and}
-use Rattle.calls.proofs.Checks.{holding, failing, and-first, and-second, within-low, within-high, within-both, start-again, start-sizes, start-priorities}
+use Rattle.calls.proofs.Checks.{holding, failing, and-first, and-second, within-low, within-high, within-both, start-again, start-sizes}
+use Rattle.calls.proofs.Checks.{start-priorities}
 use Rattle.calls.proofs.start.start_refusal.Statement.{statement}
 use Rattle.calls.proofs.start.start_refusal.Tie as tie
 

@@ -27,7 +27,8 @@ answer-requires-2 c κs = sized (c .before .before .before .before .pre)
 returns-2 : tie.Need-returns-2
 returns-2 c =
     let first = c .before .before .before .before .before .args in
-    task-outside (first .m .now) (first .q) _ (within-high 1 (length (modelOf (first .m .now) .tasks)) (first .q) (omega (arith, length-tasks (first .m .now)))) (c .answer2 .ensures)
+    task-outside (first .m .now) (first .q) _
+    (within-high 1 (length (modelOf (first .m .now) .tasks)) (first .q) (omega (arith, length-tasks (first .m .now)))) (c .answer2 .ensures)
 
 cast-load-task : tie.Need-cast-load-task
 cast-load-task c = search needs
