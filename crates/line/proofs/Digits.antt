@@ -71,7 +71,8 @@ unfolding goesOnBy allDigits spelled choose
 rest-is [] digits value h m = le-leb 1 digits h ∙ sym (le-leb value maxNumber m)
 rest-is (b ∷ bs) digits value h m =
     let raised : ℕ = value * 10 + (b - 48) in
-    one-more (within 48 57 b) (eqb value 0) (leb raised maxNumber) (allDigits bs) (leb (spelled raised bs) maxNumber) (eqb (length bs) 0) (leb 1 digits) (eqb (suc (length bs)) 0) (eqb raised 0) (goesOnBy (suc digits) raised bs)
+    one-more (within 48 57 b) (eqb value 0) (leb raised maxNumber) (allDigits bs) (leb (spelled raised bs) maxNumber) (eqb (length bs) 0) (leb 1 digits)
+    (eqb (suc (length bs)) 0) (eqb raised 0) (goesOnBy (suc digits) raised bs)
     (le-leb 1 digits h)
     (ne-eqb (suc (length bs)) 0 (omega arith))
     (λ e. lt-leb (spelled raised bs) maxNumber (lt-of-lt-of-le (leb-false raised maxNumber e) (spelled-raises bs raised)))
@@ -93,8 +94,10 @@ unfolding isNumber goesOnBy allDigits spelled choose
 is-number [] = refl
 is-number (b ∷ bs) =
     let value : ℕ = 0 * 10 + (b - 48) in
-    ap (λ (t : Bool). t and allDigits (b ∷ bs) and (eqb (suc (length bs)) 1 or isnt (eqb b 48)) and leb (spelled value bs) maxNumber) (le-leb 1 (suc (length bs)) (omega arith))
-    ∙ the-first (within 48 57 b) (leb value maxNumber) (allDigits bs) (leb (spelled value bs) maxNumber) (eqb (length bs) 0) (eqb (suc (length bs)) 1) (eqb b 48) (eqb value 0) (goesOnBy 1 value bs)
+    ap (λ (t : Bool). t and allDigits (b ∷ bs) and (eqb (suc (length bs)) 1 or isnt (eqb b 48)) and leb (spelled value bs) maxNumber)
+    (le-leb 1 (suc (length bs)) (omega arith))
+    ∙ the-first (within 48 57 b) (leb value maxNumber) (allDigits bs) (leb (spelled value bs) maxNumber) (eqb (length bs) 0) (eqb (suc (length bs)) 1)
+    (eqb b 48) (eqb value 0) (goesOnBy 1 value bs)
     (λ e. let r = digit-range b e in le-leb value maxNumber (omega arith))
     (same-test (suc (length bs)) 1 (length bs) 0 (λ e. omega arith) (λ e. omega arith))
     (λ e. let r = digit-range b e in same-test b 48 value 0 (λ e. omega arith) (λ e. omega arith))

@@ -175,5 +175,6 @@ answer-written a out o₁ o₂ o₃ r₁ r₂ r₃ fits status value next =
     let three = one-more 0 (first-text ++ second-text) third-text out o₂ o₃ r₂ r₃ (omega (arith, length-append first-text second-text)) two next in
     let whole : length (first-text ++ second-text ++ third-text) ≡ r₃ = omega arith in (
       sym whole ∙ ap length (three-texts a),
-      three .1 ∙ spliced-front (first-text ++ second-text ++ third-text) out ∙ ap (λ (n : ℕ). (first-text ++ second-text ++ third-text) ++ drop n out) whole ∙ ap (λ (t : List ℕ). t ++ drop r₃ out) (three-texts a),
+      three .1 ∙ spliced-front (first-text ++ second-text ++ third-text) out ∙ ap
+          (λ (n : ℕ). (first-text ++ second-text ++ third-text) ++ drop n out) whole ∙ ap (λ (t : List ℕ). t ++ drop r₃ out) (three-texts a),
     )

@@ -47,7 +47,8 @@ module _ (digits value b : ℕ) where
   no-digit : digitBehind digits value b ≡ Broken → goesOn digits value b ≡ false
   unfolding digitBehind
   no-digit e =
-      ⊎-elim (λ (t : goesOn digits value b ≡ true). let f = if-yes (Value (value * 10 + (b - 48))) Broken t in let z : _≡_ {A = ℕ} 0 1 = cc in absurd (omega arith))
+      ⊎-elim (λ (t : goesOn digits value b ≡ true). let f = if-yes (Value (value * 10 + (b - 48))) Broken t in let z : _≡_ {A = ℕ} 0 1 = cc in absurd
+      (omega arith))
       (λ (t : goesOn digits value b ≡ false). t)
       (tested (goesOn digits value b))
 
@@ -90,7 +91,8 @@ module _ (l : List ℕ) (at : ℕ) (ns : List ℕ) where
     pub field-empty : getD l at 32 ≡ 32 → inside ns 0 value (drop at l) ≡ none
     unfolding inside goesOnBy choose
     field-empty e =
-        ap (λ (f : List ℕ). choose (goesOnBy 0 value f and areNumbers (others (drop at l))) (some (ns ++ spelled value f ∷ numbers (others (drop at l)))) none) (field-ends l at e)
+        ap (λ (f : List ℕ). choose (goesOnBy 0 value f and areNumbers (others (drop at l)))
+        (some (ns ++ spelled value f ∷ numbers (others (drop at l)))) none) (field-ends l at e)
 
     pub field-over : 1 ≤ digits → getD l at 32 ≡ 32 → inside ns digits value (drop at l) ≡ between (ns ++ value ∷ []) (drop at l)
     unfolding inside between goesOnBy spelled choose
@@ -102,7 +104,8 @@ module _ (l : List ℕ) (at : ℕ) (ns : List ℕ) where
 
     module _ (goes : getD l at 32 ≡ 32 → ⊥) where
       one-byte : inside ns digits value (drop at l)
-          ≡ choose ((goesOn digits value (getD l at 32) and goesOnBy (suc digits) (value * 10 + (getD l at 32 - 48)) (first (drop (at + 1) l))) and areNumbers (others (drop (at + 1) l)))
+          ≡ choose ((goesOn digits value (getD l at 32) and goesOnBy (suc digits) (value * 10 + (getD l at 32 - 48))
+          (first (drop (at + 1) l))) and areNumbers (others (drop (at + 1) l)))
           (some (ns ++ spelled (value * 10 + (getD l at 32 - 48)) (first (drop (at + 1) l)) ∷ numbers (others (drop (at + 1) l))))
           none
       unfolding inside goesOnBy spelled
@@ -110,15 +113,18 @@ module _ (l : List ℕ) (at : ℕ) (ns : List ℕ) where
           let b : ℕ = getD l at 32 in
           let rest : List ℕ = drop (at + 1) l in
           ap (inside ns digits value) (from-here l at (in-line l at goes))
-          ∙ ap (λ (f : List ℕ). choose (goesOnBy digits value f and areNumbers (others (b ∷ rest))) (some (ns ++ spelled value f ∷ numbers (others (b ∷ rest)))) none) (first-cons b rest goes)
-          ∙ ap (λ (fs : List (List ℕ)). choose (goesOnBy digits value (b ∷ first rest) and areNumbers fs) (some (ns ++ spelled value (b ∷ first rest) ∷ numbers fs)) none) (others-cons b rest goes)
+          ∙ ap (λ (f : List ℕ). choose (goesOnBy digits value f and areNumbers (others (b ∷ rest)))
+          (some (ns ++ spelled value f ∷ numbers (others (b ∷ rest)))) none) (first-cons b rest goes)
+          ∙ ap (λ (fs : List (List ℕ)). choose (goesOnBy digits value (b ∷ first rest) and areNumbers fs)
+          (some (ns ++ spelled value (b ∷ first rest) ∷ numbers fs)) none) (others-cons b rest goes)
 
       -- a byte that breaks the number
       pub number-breaks : digitBehind digits value (getD l at 32) ≡ Broken → inside ns digits value (drop at l) ≡ none
       number-breaks e = one-byte ∙ test-fails _ _ _ _ (no-digit digits value (getD l at 32) e)
 
       -- a digit more
-      pub number-goes-on : (v : ℕ) → digitBehind digits value (getD l at 32) ≡ Value v → inside ns digits value (drop at l) ≡ inside ns (suc digits) v (drop (at + 1) l)
+      pub number-goes-on : (v : ℕ) → digitBehind digits value (getD l at 32) ≡ Value v
+          → inside ns digits value (drop at l) ≡ inside ns (suc digits) v (drop (at + 1) l)
       unfolding inside
       number-goes-on v e =
           let d = a-digit digits value (getD l at 32) v e in

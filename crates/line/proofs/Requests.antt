@@ -22,8 +22,9 @@ use Rattle.line.specs.declared.Word.{Word}
 use Rattle.line.specs.declared.Word.the-variants as w
 use Rattle.line.specs.declared.Numbers.{Numbers}
 use Rattle.line.specs.declared.Numbers.the-variants.{Broken, Count}
-use Rattle.line.specs.Line.{lineOf, maxLine, scanned, requestOf, asked, taking, areNumbers, numbers, same, startWord, createWord, identWord, deleteWord, obtainWord, releaseWord, flushWord, tickWord}
-use Rattle.line.specs.Scan.{first, others, allNumbers, counted, placed, wordOf, withCount, askedBy}
+use Rattle.line.specs.Line.{lineOf, maxLine, scanned, requestOf, asked, taking, areNumbers, numbers, sameBytes, startWord, createWord}
+use Rattle.line.specs.Line.{identWord, deleteWord, obtainWord, releaseWord, flushWord, tickWord}
+use Rattle.line.specs.Scan.{first, others, allNumbers, numbersRead, placed, wordOf, withCount, askedBy}
 use Rattle.line.proofs.Fields.{word-is, behind-word}
 
 rest-taken : (n : ℕ) (l : List ℕ) → drop 1 (take n l) ≡ take (n - 1) (drop 1 l)
@@ -77,18 +78,20 @@ module _ (ns : List ℕ) (k : ℕ) (fits : k ≤ length ns) where
   pub request-is : (f : List ℕ) → requestOf f (take k ns) ≡ scanned (askedBy (wordOf f) k (getD ns 0 0) (getD ns 1 0) (getD ns 2 0) (getD ns 3 0)) ns
   unfolding requestOf wordOf askedBy
   request-is f =
-      picks (same f startWord) _ _ _ _ starts
-      (picks (same f createWord) _ _ _ _
+      picks (sameBytes f startWord) _ _ _ _ starts
+      (picks (sameBytes f createWord) _ _ _ _
       (with-arity 4 (λ l. Create (getD l 0 0) (getD l 1 0) (getD l 2 0) (getD l 3 0))
       (λ e. cc (read-at 0 (omega arith), read-at 1 (omega arith), read-at 2 (omega arith), read-at 3 (omega arith))))
-      (picks (same f identWord) _ _ _ _ (with-arity 1 (λ l. Ident (getD l 0 0)) (λ e. cc (read-at 0 (omega arith))))
-      (picks (same f deleteWord) _ _ _ _ (with-arity 2 (λ l. Delete (getD l 0 0) (getD l 1 0)) (λ e. cc (read-at 0 (omega arith), read-at 1 (omega arith))))
-      (picks (same f obtainWord) _ _ _ _
+      (picks (sameBytes f identWord) _ _ _ _ (with-arity 1 (λ l. Ident (getD l 0 0)) (λ e. cc (read-at 0 (omega arith))))
+      (picks (sameBytes f deleteWord) _ _ _ _
+      (with-arity 2 (λ l. Delete (getD l 0 0) (getD l 1 0)) (λ e. cc (read-at 0 (omega arith), read-at 1 (omega arith))))
+      (picks (sameBytes f obtainWord) _ _ _ _
       (with-arity 4 (λ l. Obtain (getD l 0 0) (getD l 1 0) (waitOf (getD l 2 0) (getD l 3 0)))
       (λ e. cc (read-at 0 (omega arith), read-at 1 (omega arith), read-at 2 (omega arith), read-at 3 (omega arith))))
-      (picks (same f releaseWord) _ _ _ _ (with-arity 2 (λ l. Release (getD l 0 0) (getD l 1 0)) (λ e. cc (read-at 0 (omega arith), read-at 1 (omega arith))))
-      (picks (same f flushWord) _ _ _ _ (with-arity 2 (λ l. Flush (getD l 0 0) (getD l 1 0)) (λ e. cc (read-at 0 (omega arith), read-at 1 (omega arith))))
-      (picks (same f tickWord) _ _ _ _ (with-arity 0 (λ l. Tick) (λ e. refl)) refl)))))))
+      (picks (sameBytes f releaseWord) _ _ _ _
+      (with-arity 2 (λ l. Release (getD l 0 0) (getD l 1 0)) (λ e. cc (read-at 0 (omega arith), read-at 1 (omega arith))))
+      (picks (sameBytes f flushWord) _ _ _ _ (with-arity 2 (λ l. Flush (getD l 0 0) (getD l 1 0)) (λ e. cc (read-at 0 (omega arith), read-at 1 (omega arith))))
+      (picks (sameBytes f tickWord) _ _ _ _ (with-arity 0 (λ l. Tick) (λ e. refl)) refl)))))))
 
 -- ---- a line of at most 256 bytes, and a longer one
 
@@ -108,7 +111,8 @@ module _ (bs : List ℕ) (n : ℕ) (short : length bs ≤ maxLine) (ends : n ≡
   unfolding allNumbers
   line-broken e =
       ⊎-elim
-      (λ (t : areNumbers (others bs) ≡ true). let f = if-yes (some (numbers (others bs))) none t in let g = ap allNumbers rest-is in let z : _≡_ {A = ℕ} 0 1 = cc in absurd (omega arith))
+      (λ (t : areNumbers (others bs) ≡ true). let f = if-yes
+      (some (numbers (others bs))) none t in let g = ap allNumbers rest-is in let z : _≡_ {A = ℕ} 0 1 = cc in absurd (omega arith))
       (λ (t : areNumbers (others bs) ≡ false). by-numbers ∙ if-no _ none t)
       (tested (areNumbers (others bs)))
 
@@ -121,7 +125,8 @@ module _ (bs : List ℕ) (n : ℕ) (short : length bs ≤ maxLine) (ends : n ≡
       let g = ap allNumbers rest-is in
       let read : numbers (others bs) ≡ ns = cc in
       by-numbers ∙ if-yes _ none t ∙ ap (requestOf (first bs)) read)
-      (λ (t : areNumbers (others bs) ≡ false). let f = if-no (some (numbers (others bs))) none t in let g = ap allNumbers rest-is in let z : _≡_ {A = ℕ} 0 1 = cc in absurd (omega arith))
+      (λ (t : areNumbers (others bs) ≡ false). let f = if-no
+      (some (numbers (others bs))) none t in let g = ap allNumbers rest-is in let z : _≡_ {A = ℕ} 0 1 = cc in absurd (omega arith))
       (tested (areNumbers (others bs)))
 
   pub line-read : (ns : List ℕ) (k : ℕ) (r : Line) → allNumbers (others (drop n bs)) ≡ some (take k ns) → k ≤ length ns
@@ -149,15 +154,16 @@ module _ (bs : List ℕ) (n : ℕ) (short : length bs ≤ maxLine) (ends : n ≡
       ∙ ap (λ (r : Option Request). choose (areNumbers (others bs)) r none) (unknown-word (numbers (others bs)) (ap wordOf there ∙ sym is ∙ e))
       ∙ choose-same (areNumbers (others bs)) none
 
-  pub scan-broken : (x : Numbers) (ns : List ℕ) → allNumbers (others (drop n bs)) ≡ counted x ns → x ≡ Broken → lineOf bs ≡ none
-  scan-broken x ns e b = line-broken (e ∙ ap (λ (x : Numbers). counted x ns) b)
+  pub scan-broken : (x : Numbers) (ns : List ℕ) → allNumbers (others (drop n bs)) ≡ numbersRead x ns → x ≡ Broken → lineOf bs ≡ none
+  scan-broken x ns e b = line-broken (e ∙ ap (λ (x : Numbers). numbersRead x ns) b)
 
-  pub scan-read : (x : Numbers) (ns : List ℕ) (k : ℕ) (word : Word) (r : Line) → allNumbers (others (drop n bs)) ≡ counted x ns → placed x ≤ length ns → x ≡ Count k
+  pub scan-read : (x : Numbers) (ns : List ℕ) (k : ℕ) (word : Word) (r : Line) → allNumbers (others (drop n bs)) ≡ numbersRead x ns → placed x ≤ length ns
+      → x ≡ Count k
       → word ≡ wordOf (take n bs)
       → r ≡ askedBy word k (getD ns 0 0) (getD ns 1 0) (getD ns 2 0) (getD ns 3 0)
       → lineOf bs ≡ scanned r ns
   scan-read x ns k word r e fits counts is asks =
-      line-read ns k r (e ∙ ap (λ (x : Numbers). counted x ns) counts) (subst (λ (x : Numbers). placed x ≤ length ns) counts fits)
+      line-read ns k r (e ∙ ap (λ (x : Numbers). numbersRead x ns) counts) (subst (λ (x : Numbers). placed x ≤ length ns) counts fits)
       (asks ∙ ap (λ (v : Word). askedBy v k (getD ns 0 0) (getD ns 1 0) (getD ns 2 0) (getD ns 3 0)) is)
 
 pub word-fits : (bs : List ℕ) → length (first bs) ≤ length bs

@@ -10,7 +10,7 @@ use Rattle.rules.specs.declared.Wait.the-variants.{Poll, Forever, Ticks}
 use Rattle.rules.specs.declared.Answer.{Answer}
 use Rattle.rules.specs.Semaphore.{waitOf}
 use Rattle.rules.specs.Runs.{Request}
-use Rattle.line.specs.Line.{lineOf, fields, allDigits, spelled, isNumber, areNumbers, numbers, same, requestOf, asked, startWord}
+use Rattle.line.specs.Line.{lineOf, fields, allDigits, spelled, isNumber, areNumbers, numbers, sameBytes, requestOf, asked, startWord}
 use Rattle.line.specs.Print.{answerLine, digitsBefore, decimal}
 
 -- `n` times the same bytes
@@ -152,9 +152,11 @@ printed =
     -- 100 0 2
     (49 ∷ 48 ∷ 48 ∷ 32 ∷ 48 ∷ 32 ∷ 50 ∷ 10 ∷ []) ∷
     -- 4294967295 1000000000 999999999
-    (52 ∷ 50 ∷ 57 ∷ 52 ∷ 57 ∷ 54 ∷ 55 ∷ 50 ∷ 57 ∷ 53 ∷ 32 ∷ 49 ∷ 48 ∷ 48 ∷ 48 ∷ 48 ∷ 48 ∷ 48 ∷ 48 ∷ 48 ∷ 48 ∷ 32 ∷ 57 ∷ 57 ∷ 57 ∷ 57 ∷ 57 ∷ 57 ∷ 57 ∷ 57 ∷ 57 ∷ 10 ∷ []) ∷ []
+    (52 ∷ 50 ∷ 57 ∷ 52 ∷ 57 ∷ 54 ∷ 55 ∷ 50 ∷ 57 ∷ 53 ∷ 32 ∷ 49 ∷ 48 ∷ 48 ∷ 48 ∷ 48 ∷ 48 ∷ 48 ∷ 48 ∷ 48 ∷ 48 ∷ 32 ∷ 57 ∷ 57 ∷ 57 ∷ 57 ∷ 57 ∷ 57 ∷ 57 ∷ 57 ∷
+    57 ∷ 10 ∷ []) ∷ []
 
 -- one statement: each good line is its request, each bad line none, and answers are printed so
 vectors : (map lineOf good ≡ requests) × (map lineOf bad ≡ replicate 35 none) × (map answerLine given ≡ printed)
-unfolding times starting good bad requests given printed choose waitOf lineOf fields allDigits spelled isNumber areNumbers numbers same requestOf answerLine digitsBefore decimal
+unfolding times starting good bad requests given printed choose waitOf lineOf fields allDigits spelled isNumber areNumbers numbers sameBytes requestOf
+    answerLine digitsBefore decimal
 vectors = (refl, refl, refl)

@@ -10,12 +10,12 @@ use lib.ListN.{length, getD, drop, drop-of-length-le}
 use lib.Seq.{drop-cons}
 use Rattle.laws.specs.Choose.{choose, _and_}
 use Rattle.laws.proofs.Choose.{if-eq, if-ne, choose-same}
-use Rattle.line.specs.Line.{same}
+use Rattle.line.specs.Line.{sameBytes}
 use Rattle.line.specs.Scan.{first}
 use Rattle.line.proofs.Fields.{first-cons, from-here, field-ends, in-line}
 
-pub same-lengths : (a b : List ℕ) → (length a ≡ length b → ⊥) → same a b ≡ false
-unfolding same
+pub same-lengths : (a b : List ℕ) → (length a ≡ length b → ⊥) → sameBytes a b ≡ false
+unfolding sameBytes
 same-lengths [] [] d = absurd (d refl)
 same-lengths [] (y ∷ ys) d = refl
 same-lengths (x ∷ xs) [] d = refl
@@ -23,20 +23,20 @@ same-lengths (x ∷ xs) (y ∷ ys) d =
     ap (λ (t : Bool). eqb x y and t) (same-lengths xs ys (λ e. d (ap suc e))) ∙ choose-same (eqb x y) false
 
 module _ (a b : List ℕ) (i : ℕ) where
-  pub same-over : length a ≤ i → length b ≤ i → same (drop i a) (drop i b) ≡ true
-  unfolding same
+  pub same-over : length a ≤ i → length b ≤ i → sameBytes (drop i a) (drop i b) ≡ true
+  unfolding sameBytes
   same-over h k = rw (drop-of-length-le a h, drop-of-length-le b k)
 
   module _ (h : i < length a) (k : i < length b) where
-    here : same (drop i a) (drop i b) ≡ (eqb (getD a i 0) (getD b i 0) and same (drop (i + 1) a) (drop (i + 1) b))
-    unfolding same
+    here : sameBytes (drop i a) (drop i b) ≡ (eqb (getD a i 0) (getD b i 0) and sameBytes (drop (i + 1) a) (drop (i + 1) b))
+    unfolding sameBytes
     here = rw (add-one, drop-cons a i 0 h, drop-cons b i 0 k)
 
-    pub same-here : getD a i 0 ≡ getD b i 0 → same (drop i a) (drop i b) ≡ same (drop (i + 1) a) (drop (i + 1) b)
-    same-here e = here ∙ if-eq (getD a i 0) (getD b i 0) (same (drop (i + 1) a) (drop (i + 1) b)) false e
+    pub same-here : getD a i 0 ≡ getD b i 0 → sameBytes (drop i a) (drop i b) ≡ sameBytes (drop (i + 1) a) (drop (i + 1) b)
+    same-here e = here ∙ if-eq (getD a i 0) (getD b i 0) (sameBytes (drop (i + 1) a) (drop (i + 1) b)) false e
 
-    pub other-here : (getD a i 0 ≡ getD b i 0 → ⊥) → same (drop i a) (drop i b) ≡ false
-    other-here d = here ∙ if-ne (getD a i 0) (getD b i 0) (same (drop (i + 1) a) (drop (i + 1) b)) false d
+    pub other-here : (getD a i 0 ≡ getD b i 0 → ⊥) → sameBytes (drop i a) (drop i b) ≡ false
+    other-here d = here ∙ if-ne (getD a i 0) (getD b i 0) (sameBytes (drop (i + 1) a) (drop (i + 1) b)) false d
 
 -- ---- the length of the first word, a byte more or at its end
 

@@ -53,11 +53,11 @@ numbers (f ∷ fs) = spelled 0 f ∷ numbers fs
 
 -- ---- the words, byte by byte
 
-unfoldable pub same : List ℕ → List ℕ → Bool
-same [] [] = true
-same [] (y ∷ ys) = false
-same (x ∷ xs) [] = false
-same (x ∷ xs) (y ∷ ys) = let rest = same xs ys in eqb x y and rest
+unfoldable pub sameBytes : List ℕ → List ℕ → Bool
+sameBytes [] [] = true
+sameBytes [] (y ∷ ys) = false
+sameBytes (x ∷ xs) [] = false
+sameBytes (x ∷ xs) (y ∷ ys) = let rest = sameBytes xs ys in eqb x y and rest
 
 abbrev pub startWord : List ℕ
 startWord = 115 ∷ 116 ∷ 97 ∷ 114 ∷ 116 ∷ []
@@ -94,14 +94,14 @@ taking arity ns request = choose (eqb (length ns) arity) request none
 unfoldable pub requestOf : List ℕ → List ℕ → Option Request
 requestOf word ns =
     let n : ℕ → ℕ = λ i. getD ns i 0 in
-    choose (same word startWord) (choose (leb 1 (length ns)) (some (record { call = Start (n 0); priorities = drop 1 ns })) none)
-    (choose (same word createWord) (taking 4 ns (asked (Create (n 0) (n 1) (n 2) (n 3))))
-    (choose (same word identWord) (taking 1 ns (asked (Ident (n 0))))
-    (choose (same word deleteWord) (taking 2 ns (asked (Delete (n 0) (n 1))))
-    (choose (same word obtainWord) (taking 4 ns (asked (Obtain (n 0) (n 1) (waitOf (n 2) (n 3)))))
-    (choose (same word releaseWord) (taking 2 ns (asked (Release (n 0) (n 1))))
-    (choose (same word flushWord) (taking 2 ns (asked (Flush (n 0) (n 1))))
-    (choose (same word tickWord) (taking 0 ns (asked Tick))
+    choose (sameBytes word startWord) (choose (leb 1 (length ns)) (some (record { call = Start (n 0); priorities = drop 1 ns })) none)
+    (choose (sameBytes word createWord) (taking 4 ns (asked (Create (n 0) (n 1) (n 2) (n 3))))
+    (choose (sameBytes word identWord) (taking 1 ns (asked (Ident (n 0))))
+    (choose (sameBytes word deleteWord) (taking 2 ns (asked (Delete (n 0) (n 1))))
+    (choose (sameBytes word obtainWord) (taking 4 ns (asked (Obtain (n 0) (n 1) (waitOf (n 2) (n 3)))))
+    (choose (sameBytes word releaseWord) (taking 2 ns (asked (Release (n 0) (n 1))))
+    (choose (sameBytes word flushWord) (taking 2 ns (asked (Flush (n 0) (n 1))))
+    (choose (sameBytes word tickWord) (taking 0 ns (asked Tick))
     none)))))))
 
 -- ---- a line: a word and numbers; none is bad

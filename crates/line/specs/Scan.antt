@@ -18,7 +18,8 @@ use Rattle.line.specs.declared.Digit.{Digit}
 use Rattle.line.specs.declared.Digit.the-variants.{Broken as BadDigit, Value}
 use Rattle.line.specs.declared.Numbers.{Numbers}
 use Rattle.line.specs.declared.Numbers.the-variants.{Broken as BadNumbers, Count}
-use Rattle.line.specs.Line.{fields, areNumbers, numbers, same, startWord, createWord, identWord, deleteWord, obtainWord, releaseWord, flushWord, tickWord}
+use Rattle.line.specs.Line.{fields, areNumbers, numbers, sameBytes, startWord, createWord, identWord, deleteWord, obtainWord, releaseWord}
+use Rattle.line.specs.Line.{flushWord, tickWord}
 
 -- the first field, and those behind it
 abbrev pub first : List ℕ → List ℕ
@@ -32,9 +33,9 @@ unfoldable pub allNumbers : List (List ℕ) → Option (List ℕ)
 allNumbers fs = choose (areNumbers fs) (some (numbers fs)) none
 
 -- what the code's reading of the numbers stands for
-abbrev pub counted : Numbers → List ℕ → Option (List ℕ)
-counted BadNumbers ns = none
-counted (Count n) ns = some (take n ns)
+abbrev pub numbersRead : Numbers → List ℕ → Option (List ℕ)
+numbersRead BadNumbers ns = none
+numbersRead (Count n) ns = some (take n ns)
 
 -- how many places of the lent numbers are filled
 abbrev pub placed : Numbers → ℕ
@@ -50,14 +51,14 @@ digitBehind digits value b = choose (goesOn digits value b) (Value (value * 10 +
 
 unfoldable pub wordOf : List ℕ → Word
 wordOf f =
-    choose (same f startWord) w.Start
-    (choose (same f createWord) w.Create
-    (choose (same f identWord) w.Ident
-    (choose (same f deleteWord) w.Delete
-    (choose (same f obtainWord) w.Obtain
-    (choose (same f releaseWord) w.Release
-    (choose (same f flushWord) w.Flush
-    (choose (same f tickWord) w.Tick w.Unknown)))))))
+    choose (sameBytes f startWord) w.Start
+    (choose (sameBytes f createWord) w.Create
+    (choose (sameBytes f identWord) w.Ident
+    (choose (sameBytes f deleteWord) w.Delete
+    (choose (sameBytes f obtainWord) w.Obtain
+    (choose (sameBytes f releaseWord) w.Release
+    (choose (sameBytes f flushWord) w.Flush
+    (choose (sameBytes f tickWord) w.Tick w.Unknown)))))))
 
 abbrev pub withCount : ℕ → ℕ → Call → Line
 withCount arity count call = choose (eqb count arity) (Asked call 0) Bad

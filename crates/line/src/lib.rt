@@ -6,8 +6,8 @@ ghost use mathlib.Core.Path.{_≡_};
 ghost use mathlib.Core.List.{_++_, _∷_, []};
 ghost use Prim.Native.Nat.{_+_, _*_, _≤_, _<_};
 ghost use lib.ListN.{length, getD, take, drop};
-ghost use Rattle.line.specs.Line.{lineOf, scanned, same as sameBytes};
-ghost use Rattle.line.specs.Scan.{first, others, allNumbers, counted, placed, digitBehind, wordOf, withCount, askedBy};
+ghost use Rattle.line.specs.Line.{lineOf, scanned, sameBytes};
+ghost use Rattle.line.specs.Scan.{first, others, allNumbers, numbersRead, placed, digitBehind, wordOf, withCount, askedBy};
 ghost use Rattle.line.specs.Print.{answerLine, badLine, decimal, spliced};
 
 // What a line asks, with how many numbers stand behind a start's first: they are left in the numbers lent to the scan.
@@ -61,7 +61,7 @@ fn word_length(line: &[u8]) -> usize
     n
 }
 
-fn same(a: &[u8], b: &[u8]) -> bool
+fn same_bytes(a: &[u8], b: &[u8]) -> bool
     ensures { λ r. ⌜ r ≡ sameBytes (now (a .entry)) (now (b .entry)) ⌝ }
 {
     if a.len() != b.len() {
@@ -80,28 +80,28 @@ fn same(a: &[u8], b: &[u8]) -> bool
 fn word_of(word: &[u8]) -> Word
     ensures { λ r. ⌜ r ≡ wordOf (now (word .entry)) ⌝ }
 {
-    if same(word, b"start") {
+    if same_bytes(word, b"start") {
         return Word::Start;
     }
-    if same(word, b"create") {
+    if same_bytes(word, b"create") {
         return Word::Create;
     }
-    if same(word, b"ident") {
+    if same_bytes(word, b"ident") {
         return Word::Ident;
     }
-    if same(word, b"delete") {
+    if same_bytes(word, b"delete") {
         return Word::Delete;
     }
-    if same(word, b"obtain") {
+    if same_bytes(word, b"obtain") {
         return Word::Obtain;
     }
-    if same(word, b"release") {
+    if same_bytes(word, b"release") {
         return Word::Release;
     }
-    if same(word, b"flush") {
+    if same_bytes(word, b"flush") {
         return Word::Flush;
     }
-    if same(word, b"tick") {
+    if same_bytes(word, b"tick") {
         return Word::Tick;
     }
     Word::Unknown
@@ -132,7 +132,7 @@ fn digit_behind(digits: usize, value: u32, b: u8) -> Digit
 // The numbers behind the word, which ends at `from`. A bad byte ends the reading at once.
 fn read_numbers(line: &[u8], from: usize, numbers: &mut [u32; 128]) -> Numbers
     requires { ⌜ (length (now line) ≤ 256) × (getD (now line) from 32 ≡ 32) ⌝ }
-    ensures { λ r. ⌜ (allNumbers (others (drop from (now (line .entry)))) ≡ counted r (now (numbers .exit))) × (placed r ≤ length (now (numbers .exit))) ⌝ }
+    ensures { λ r. ⌜ (allNumbers (others (drop from (now (line .entry)))) ≡ numbersRead r (now (numbers .exit))) × (placed r ≤ length (now (numbers .exit))) ⌝ }
 {
     // places that no number fills are 0
     *numbers = [0u32; 128];

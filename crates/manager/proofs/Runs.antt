@@ -152,7 +152,7 @@ never-again-bytes {bs} g {t} m {id} n = subst (λ (f : Call → List ℕ → Ans
 
 -- a delete that was done, on the bytes of agreeing tables
 module _ (bs : List ℕ) (b : Bytes bs) (caller id : ℕ) (priorities : List ℕ) (fits : callFits (Delete caller id) ≡ true)
-(done : replyTo bs (Delete caller id) priorities .answer .status ≡ 0) where
+    (done : replyTo bs (Delete caller id) priorities .answer .status ≡ 0) where
   abbrev deleted : List ℕ
   deleted = replyTo bs (Delete caller id) priorities .bytes
 

@@ -45,7 +45,10 @@ expected = map (λ l. l .answer)
 
 -- the answers, the last answer and the last tables of a run from the machine not yet started; to unfold one is to unfold all rules
 unfoldable pub answersOf : List Request → List Answer
-unfolding choose all next mostUrgent occurs sizesFit numbersFit answersFit liveNamed attributesAllowed waitersQueued queuesWait queuesOrdered queuedAtZero binariesOwned othersUnowned readyAtRest freeSlotsClear agrees waitOf ahead placeOf takeStep giveStep passStep flushStep wakeAll startRefusal started start firstFree createRefusal newSemaphore create firstNamed ident deleteRefusal delete obtainRefusal obtain releaseRefusal release flushRefusal flush ticked stillWaiting tickedSlot tick perform step after answers
+unfolding choose all next mostUrgent occurs sizesFit numbersFit answersFit liveNamed attributesAllowed waitersQueued queuesWait queuesOrdered
+    queuedAtZero binariesOwned othersUnowned readyAtRest freeSlotsClear agrees waitOf ahead placeOf takeStep giveStep passStep flushStep wakeAll
+    startRefusal started start firstFree createRefusal newSemaphore create firstNamed ident deleteRefusal delete obtainRefusal obtain
+    releaseRefusal release flushRefusal flush ticked stillWaiting tickedSlot tick perform step after answers
 answersOf rs = answers unstarted rs
 
 abbrev pub tablesOf : List Request → Tables

@@ -7,7 +7,7 @@ use Rattle.rules.specs.Runs.{Request}
 use Rattle.rules.proofs.Asking.{Line, _gives_, ask, startWith, obtains, says, requests, expected, answersOf, lastOf}
 
 -- P1 to P11
-abbrev worked : List Line
+abbrev pub worked : List Line
 worked =
     (startWith 4 (10 ∷ 20 ∷ []) gives says 0 0 1)
     ∷ (ask (Create 1 77 1 20) gives says 0 65537 1)
@@ -23,11 +23,11 @@ worked =
     ∷ []
 
 -- one task has created a semaphore of that count and those attributes
-abbrev one : ℕ → ℕ → List Request
+abbrev pub one : ℕ → ℕ → List Request
 one count attributes = startWith 1 (5 ∷ []) ∷ ask (Create 1 77 count attributes) ∷ []
 
 -- P12 counting at 4294967295, P13 simple binary at 1, P14 unowned binary
-P1-P14 : answersOf (requests worked)
+pub P1-P14 : answersOf (requests worked)
     ++ lastOf (one 4294967295 0) (ask (Release 1 65537))
     ∷ lastOf (one 1 32) (ask (Release 0 65537))
     ∷ lastOf (one 1 16) (ask (Release 0 65537))

@@ -60,7 +60,8 @@ unspliced at out =
     ap₂ (λ (l : List ℕ) (n : ℕ). l ++ drop n out) (append-nil (take at out)) none-more ∙ take-append-drop at out
 
 -- what is written at the front of the rest of the output is written at its place
-module _ (at : ℕ) (xs out part : List ℕ) (k n : ℕ) (rest : k ≡ length out - at) (is : n ≡ length xs) (written : part ≡ xs ++ drop n (take k (drop at out))) where
+module _ (at : ℕ) (xs out part : List ℕ) (k n : ℕ) (rest : k ≡ length out - at) (is : n ≡ length xs)
+    (written : part ≡ xs ++ drop n (take k (drop at out))) where
   whole-rest : take k (drop at out) ≡ drop at out
   whole-rest = take-all k (drop at out) (omega (arith, length-drop at out))
 

@@ -54,8 +54,10 @@ module _ {k : Kept} {t : Tables} {begun : List ℕ} (g : Stands k t begun) where
   unfolding answerTo
   end-answers =
       elim (decLt 256 (k .begun)) [
-        | yes h ↦ end-many k h ∙ response-is t (g .agrees) (k .bytes) (g .bytes) none ∙ ap (λ (x : Option Request). onBytes (answerOf t x)) (sym (too-long begun (g .many h)))
-        | no d ↦ end-few k (omega arith) ∙ ap (respond (k .bytes)) (sym (g .few (omega arith))) ∙ respond-is (k .bytes) begun refl ∙ response-is t (g .agrees) (k .bytes) (g .bytes) (lineOf begun)
+        | yes h ↦ end-many k h ∙ response-is t (g .agrees) (k .bytes) (g .bytes) none ∙ ap (λ (x : Option Request). onBytes (answerOf t x))
+            (sym (too-long begun (g .many h)))
+        | no d ↦ end-few k (omega arith) ∙ ap (respond (k .bytes)) (sym (g .few (omega arith))) ∙ respond-is (k .bytes) begun refl ∙ response-is t
+            (g .agrees) (k .bytes) (g .bytes) (lineOf begun)
       ]
 
   -- a newline
@@ -80,7 +82,12 @@ module _ {k : Kept} {t : Tables} {begun : List ℕ} (g : Stands k t begun) where
   -- any other byte
   pub stands-other : (b : ℕ) → Stands (lengthen k b) t (begun ++ b ∷ [])
   unfolding lengthen
-  stands-other b = elim (decLt (k .begun) 256) [ yes h ↦ subst P (sym (if-lt (k .begun) 256 _ _ h)) (stored h) | no d ↦ subst P (sym (if-not-lt (k .begun) 256 _ _ (omega arith))) (longer (omega arith)) ]
+  stands-other b =
+      elim (decLt (k .begun) 256) [
+        | yes h ↦ subst P (sym (if-lt (k .begun) 256 _ _ h)) (stored h)
+        | no d ↦ subst P
+            (sym (if-not-lt (k .begun) 256 _ _ (omega arith))) (longer (omega arith))
+      ]
     where
       P : Kept → Type 0
       P s = Stands s t (begun ++ b ∷ [])

@@ -79,7 +79,8 @@ pub said-whole : (k : Kept) (t : Tables) (begun rest : List ℕ) → Stands k t 
 unfolding saidToPart afterPart
 said-whole k t begun [] g p = at-end k t begun g p ∙ sym (ap (λ (l : List ℕ). outputs t (lines l)) (append-nil begun))
 said-whole k t begun (b ∷ bs) g p =
-    ⊎-elim (λ (e : eqb b 10 ≡ true). newline k b bs t begun g p e (said-whole (keeps (endLine k .bytes) (k .line) 0) (answerTo t begun .tables) [] bs (stands-newline g) tt))
+    ⊎-elim (λ (e : eqb b 10 ≡ true). newline k b bs t begun g p e
+    (said-whole (keeps (endLine k .bytes) (k .line) 0) (answerTo t begun .tables) [] bs (stands-newline g) tt))
     (λ (e : eqb b 10 ≡ false). other k b bs t begun g e (said-whole (lengthen k b) t (begun ++ b ∷ []) bs (stands-other g b) (plain-more begun b p e)))
     (tested (eqb b 10))
 
@@ -118,8 +119,10 @@ stands-after : (k : Kept) (t : Tables) (begun text : List ℕ) → Stands k t be
 unfolding afterPart afterByte
 stands-after k t begun [] g = record { tables = t; begun = begun; stands = g }
 stands-after k t begun (b ∷ bs) g =
-    ⊎-elim (λ (e : eqb b 10 ≡ true). subst (λ (m : Kept). Standing (afterPart m bs)) (sym (if-yes _ _ e)) (stands-after (keeps (endLine k .bytes) (k .line) 0) (answerTo t begun .tables) [] bs (stands-newline g)))
-    (λ (e : eqb b 10 ≡ false). subst (λ (m : Kept). Standing (afterPart m bs)) (sym (if-no _ _ e)) (stands-after (lengthen k b) t (begun ++ b ∷ []) bs (stands-other g b)))
+    ⊎-elim (λ (e : eqb b 10 ≡ true). subst (λ (m : Kept). Standing (afterPart m bs)) (sym (if-yes _ _ e))
+    (stands-after (keeps (endLine k .bytes) (k .line) 0) (answerTo t begun .tables) [] bs (stands-newline g)))
+    (λ (e : eqb b 10 ≡ false). subst (λ (m : Kept). Standing (afterPart m bs)) (sym (if-no _ _ e))
+    (stands-after (lengthen k b) t (begun ++ b ∷ []) bs (stands-other g b)))
     (tested (eqb b 10))
 
 pub reached-stands : (k : Kept) → Reached k → Standing k

@@ -1,18 +1,13 @@
--- P1 to P11 as the text of a session and the text of its answers, byte by byte.
+-- P1 to P14 as the text of a session and the text of its answers, byte by byte.
 use mathlib.Core.Path.{_≡_, refl}
 use mathlib.Core.List.{List, [], _∷_}
 use Prim.Native.Nat.{ℕ}
-use Rattle.laws.specs.Choose.{choose}
-use Rattle.laws.specs.All.{all}
-use Rattle.rules.specs.Machine.{next, mostUrgent}
-use Rattle.rules.specs.Agreement.{occurs, sizesFit, numbersFit, answersFit, liveNamed, attributesAllowed, waitersQueued, queuesWait, queuesOrdered, queuedAtZero, binariesOwned, othersUnowned, readyAtRest, freeSlotsClear, agrees}
-use Rattle.rules.specs.Semaphore.{waitOf, ahead, placeOf, takeStep, giveStep, passStep, flushStep}
-use Rattle.rules.specs.Calls.{wakeAll, startRefusal, started, start, firstFree, createRefusal, newSemaphore, create, firstNamed, ident, deleteRefusal, delete, obtainRefusal, obtain, releaseRefusal, release, flushRefusal, flush, ticked, stillWaiting, tickedSlot, tick, perform, step}
-use Rattle.line.specs.Line.{fields, allDigits, spelled, isNumber, areNumbers, numbers, same, requestOf, lineOf}
+use Rattle.rules.proofs.Asking.{answersOf}
+use Rattle.line.specs.Line.{fields, allDigits, spelled, isNumber, areNumbers, numbers, sameBytes, requestOf, lineOf}
 use Rattle.line.specs.Print.{digitsBefore, decimal, answerLine}
 use Rattle.session.specs.Session.{lines, answerTo, outputs, session}
 
-abbrev input : List ℕ
+abbrev pub input : List ℕ
 input =
     -- start 4 10 20
     115 ∷ 116 ∷ 97 ∷ 114 ∷ 116 ∷ 32 ∷ 52 ∷ 32 ∷ 49 ∷ 48 ∷ 32 ∷ 50 ∷ 48 ∷ 10
@@ -38,7 +33,7 @@ input =
     ∷ 99 ∷ 114 ∷ 101 ∷ 97 ∷ 116 ∷ 101 ∷ 32 ∷ 49 ∷ 32 ∷ 55 ∷ 56 ∷ 32 ∷ 50 ∷ 32 ∷ 48 ∷ 10
     ∷ []
 
-abbrev output : List ℕ
+abbrev pub output : List ℕ
 output =
     -- 0 0 1
     48 ∷ 32 ∷ 48 ∷ 32 ∷ 49 ∷ 10
@@ -64,6 +59,72 @@ output =
     ∷ 48 ∷ 32 ∷ 49 ∷ 51 ∷ 49 ∷ 48 ∷ 55 ∷ 51 ∷ 32 ∷ 49 ∷ 10
     ∷ []
 
-P1-P11-as-text : session input ≡ output
-unfolding choose all next mostUrgent occurs sizesFit numbersFit answersFit liveNamed attributesAllowed waitersQueued queuesWait queuesOrdered queuedAtZero binariesOwned othersUnowned readyAtRest freeSlotsClear agrees waitOf ahead placeOf takeStep giveStep passStep flushStep wakeAll startRefusal started start firstFree createRefusal newSemaphore create firstNamed ident deleteRefusal delete obtainRefusal obtain releaseRefusal release flushRefusal flush ticked stillWaiting tickedSlot tick perform step fields allDigits spelled isNumber areNumbers numbers same requestOf lineOf digitsBefore decimal answerLine lines answerTo outputs session
+pub P1-P11-as-text : session input ≡ output
+unfolding answersOf fields allDigits spelled isNumber areNumbers numbers sameBytes requestOf lineOf digitsBefore decimal answerLine
+    lines answerTo outputs session
 P1-P11-as-text = refl
+
+abbrev pub P12-input : List ℕ
+P12-input =
+    -- start 1 5
+    115 ∷ 116 ∷ 97 ∷ 114 ∷ 116 ∷ 32 ∷ 49 ∷ 32 ∷ 53 ∷ 10
+    -- create 1 77 4294967295 0
+    ∷ 99 ∷ 114 ∷ 101 ∷ 97 ∷ 116 ∷ 101 ∷ 32 ∷ 49 ∷ 32 ∷ 55 ∷ 55 ∷ 32 ∷ 52 ∷ 50 ∷ 57 ∷ 52 ∷ 57 ∷ 54 ∷ 55 ∷ 50 ∷ 57 ∷ 53 ∷ 32 ∷ 48 ∷ 10
+    -- release 1 65537
+    ∷ 114 ∷ 101 ∷ 108 ∷ 101 ∷ 97 ∷ 115 ∷ 101 ∷ 32 ∷ 49 ∷ 32 ∷ 54 ∷ 53 ∷ 53 ∷ 51 ∷ 55 ∷ 10
+    ∷ []
+
+abbrev pub P12-output : List ℕ
+P12-output =
+    -- 0 0 1
+    48 ∷ 32 ∷ 48 ∷ 32 ∷ 49 ∷ 10
+    -- 0 65537 1
+    ∷ 48 ∷ 32 ∷ 54 ∷ 53 ∷ 53 ∷ 51 ∷ 55 ∷ 32 ∷ 49 ∷ 10
+    -- 13 0 1
+    ∷ 49 ∷ 51 ∷ 32 ∷ 48 ∷ 32 ∷ 49 ∷ 10
+    ∷ []
+
+abbrev pub P13-input : List ℕ
+P13-input =
+    -- start 1 5
+    115 ∷ 116 ∷ 97 ∷ 114 ∷ 116 ∷ 32 ∷ 49 ∷ 32 ∷ 53 ∷ 10
+    -- create 1 77 1 32
+    ∷ 99 ∷ 114 ∷ 101 ∷ 97 ∷ 116 ∷ 101 ∷ 32 ∷ 49 ∷ 32 ∷ 55 ∷ 55 ∷ 32 ∷ 49 ∷ 32 ∷ 51 ∷ 50 ∷ 10
+    -- release 0 65537
+    ∷ 114 ∷ 101 ∷ 108 ∷ 101 ∷ 97 ∷ 115 ∷ 101 ∷ 32 ∷ 48 ∷ 32 ∷ 54 ∷ 53 ∷ 53 ∷ 51 ∷ 55 ∷ 10
+    ∷ []
+
+abbrev pub P13-output : List ℕ
+P13-output =
+    -- 0 0 1
+    48 ∷ 32 ∷ 48 ∷ 32 ∷ 49 ∷ 10
+    -- 0 65537 1
+    ∷ 48 ∷ 32 ∷ 54 ∷ 53 ∷ 53 ∷ 51 ∷ 55 ∷ 32 ∷ 49 ∷ 10
+    -- 13 0 1
+    ∷ 49 ∷ 51 ∷ 32 ∷ 48 ∷ 32 ∷ 49 ∷ 10
+    ∷ []
+
+abbrev pub P14-input : List ℕ
+P14-input =
+    -- start 1 5
+    115 ∷ 116 ∷ 97 ∷ 114 ∷ 116 ∷ 32 ∷ 49 ∷ 32 ∷ 53 ∷ 10
+    -- create 1 77 1 16
+    ∷ 99 ∷ 114 ∷ 101 ∷ 97 ∷ 116 ∷ 101 ∷ 32 ∷ 49 ∷ 32 ∷ 55 ∷ 55 ∷ 32 ∷ 49 ∷ 32 ∷ 49 ∷ 54 ∷ 10
+    -- release 0 65537
+    ∷ 114 ∷ 101 ∷ 108 ∷ 101 ∷ 97 ∷ 115 ∷ 101 ∷ 32 ∷ 48 ∷ 32 ∷ 54 ∷ 53 ∷ 53 ∷ 51 ∷ 55 ∷ 10
+    ∷ []
+
+abbrev pub P14-output : List ℕ
+P14-output =
+    -- 0 0 1
+    48 ∷ 32 ∷ 48 ∷ 32 ∷ 49 ∷ 10
+    -- 0 65537 1
+    ∷ 48 ∷ 32 ∷ 54 ∷ 53 ∷ 53 ∷ 51 ∷ 55 ∷ 32 ∷ 49 ∷ 10
+    -- 23 0 1
+    ∷ 50 ∷ 51 ∷ 32 ∷ 48 ∷ 32 ∷ 49 ∷ 10
+    ∷ []
+
+pub P12-P14-as-text : (session P12-input ≡ P12-output) × (session P13-input ≡ P13-output) × (session P14-input ≡ P14-output)
+unfolding answersOf fields allDigits spelled isNumber areNumbers numbers sameBytes requestOf lineOf digitsBefore decimal answerLine
+    lines answerTo outputs session
+P12-P14-as-text = (refl, refl, refl)

@@ -10,7 +10,8 @@ ghost use Rattle.manager.specs.Entry.{Replied, replyTo};
 ghost use Rattle.session.specs.Kept.{keeps, respond, endLine, lengthen, atEnd};
 ghost use Rattle.session.specs.Feeding.{Writes, Took, FedIs};
 
-// What feeding a part did: how many of its bytes were taken, how many of the output written, and how long the line is that has begun (257 where it is longer than 256).
+// What feeding a part did: how many of its bytes were taken, how many of the output written, and how long the line is that has begun (257
+// where it is longer than 256).
 pub struct Fed {
     pub taken: usize,
     pub written: usize,

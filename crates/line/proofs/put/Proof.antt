@@ -46,8 +46,11 @@ loop-again c =
     let d : List ℕ = now (c .before .before .before .args .out) in
     let at : ℕ = c .before .before .before .args .at in
     let s : List ℕ = now (c .before .before .before .args .text) in
-    let i : ℕ = c .before .before .loop .i in
-    (omega arith, ap (λ (l : List ℕ). set l (at + i) (getD s i 0)) (c .before .before .loop .inv .1) ∙ paste-suc d at s i 0 (omega arith) (omega arith) ∙ ap (paste d at s) (sym (add-one i)))
+    let i : ℕ = c .before .before .loop .i in (
+      omega arith,
+      ap (λ (l : List ℕ). set l (at + i) (getD s i 0)) (c .before .before .loop .inv .1) ∙ paste-suc d at s i 0 (omega arith) (omega arith)
+          ∙ ap (paste d at s) (sym (add-one i)),
+    )
 
 add-result : tie.Need-add-result Inv-loop μ-loop
 add-result c = search needs
@@ -55,7 +58,8 @@ add-result c = search needs
 same-length : tie.Need-same-length Inv-loop μ-loop
 same-length c =
     ap length (c .before .loop .inv .1)
-    ∙ length-paste (now (c .before .before .args .out)) (c .before .before .args .at) (now (c .before .before .args .text)) (c .before .loop .i) (omega arith) (omega arith)
+    ∙ length-paste (now (c .before .before .args .out)) (c .before .before .args .at) (now (c .before .before .args .text)) (c .before .loop .i)
+    (omega arith) (omega arith)
 
 returns : tie.Need-returns Inv-loop μ-loop
 returns c =

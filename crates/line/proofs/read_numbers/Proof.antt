@@ -24,7 +24,8 @@ abbrev μ-loop : tie.MeasureT-loop
 
 abbrev Inv-fields : tie.InvT-fields
 Inv-fields line from numbers₀ at₀ count₀ numbers at count =
-    (length numbers ≡ 128) × ((2 * count ≤ at) × (count ≤ 128)) × (getD line at 32 ≡ 32) × (allNumbers (others (drop from line)) ≡ between (take count numbers) (drop at line))
+    (length numbers ≡ 128) × ((2 * count ≤ at) × (count ≤ 128)) × (getD line at 32 ≡ 32) ×
+    (allNumbers (others (drop from line)) ≡ between (take count numbers) (drop at line))
 
 abbrev μ-fields : tie.MeasureT-fields
 μ-fields line from numbers₀ at₀ count₀ numbers at count = length line - at
@@ -66,7 +67,8 @@ enum-known-v c = search needs
 add-at-2 : tie.Need-add-at-2 Inv-loop μ-loop Inv-fields μ-fields
 add-at-2 c =
     let l : List ℕ = now (c .before .before .before .before .before .before .before .before .before .before .before .args .line) in
-    let ns : List ℕ = take (c .before .before .before .before .before .before .before .before .fields .count) (c .before .before .before .before .before .before .before .before .fields .numbers) in
+    let ns : List ℕ = take (c .before .before .before .before .before .before .before .before .fields .count)
+    (c .before .before .before .before .before .before .before .before .fields .numbers) in
     let begin : ℕ = c .before .before .before .before .before .before .before .before .fields .at + 1 in
     let at : ℕ = c .before .before .before .before .before .before .loop .at in
     let value : ℕ = c .before .before .before .before .before .before .loop .value in
@@ -76,7 +78,8 @@ add-at-2 c =
 loop-less : tie.Need-loop-less Inv-loop μ-loop Inv-fields μ-fields
 loop-less c =
     let l : List ℕ = now (c .before .before .before .before .before .before .before .before .before .before .before .args .line) in
-    let ns : List ℕ = take (c .before .before .before .before .before .before .before .before .fields .count) (c .before .before .before .before .before .before .before .before .fields .numbers) in
+    let ns : List ℕ = take (c .before .before .before .before .before .before .before .before .fields .count)
+    (c .before .before .before .before .before .before .before .before .fields .numbers) in
     let begin : ℕ = c .before .before .before .before .before .before .before .before .fields .at + 1 in
     let at : ℕ = c .before .before .before .before .before .before .loop .at in
     let value : ℕ = c .before .before .before .before .before .before .loop .value in
@@ -86,7 +89,8 @@ loop-less c =
 loop-again : tie.Need-loop-again Inv-loop μ-loop Inv-fields μ-fields
 loop-again c =
     let l : List ℕ = now (c .before .before .before .before .before .before .before .before .before .before .before .args .line) in
-    let ns : List ℕ = take (c .before .before .before .before .before .before .before .before .fields .count) (c .before .before .before .before .before .before .before .before .fields .numbers) in
+    let ns : List ℕ = take (c .before .before .before .before .before .before .before .before .fields .count)
+    (c .before .before .before .before .before .before .before .before .fields .numbers) in
     let begin : ℕ = c .before .before .before .before .before .before .before .before .fields .at + 1 in
     let at : ℕ = c .before .before .before .before .before .before .loop .at in
     let value : ℕ = c .before .before .before .before .before .before .loop .value in
@@ -96,7 +100,8 @@ loop-again c =
       omega (arith, in-line l at goes),
       c .before .before .before .before .before .before .loop .inv .2
           ∙ number-goes-on l at ns (at - begin) value goes (c .before .v .given .0 .0)
-          (ap (digitBehind (at - begin) value) (sym (c .before .before .before .before .before .byte-at .ensures)) ∙ sym (c .before .before .before .digit-behind .ensures) ∙ c .before .v .given .1)
+          (ap (digitBehind (at - begin) value) (sym (c .before .before .before .before .before .byte-at .ensures)) ∙ sym
+          (c .before .before .before .digit-behind .ensures) ∙ c .before .v .given .1)
           ∙ ap (λ (n : ℕ). inside ns n (c .before .v .given .0 .0) (drop (at + 1) l)) one-more,
     )
 
@@ -122,7 +127,8 @@ fields-again c =
     let count : ℕ = c .before .before .before .before .before .fields .count in
     let numbers : List ℕ = c .before .before .before .before .before .fields .numbers in
     let ends : getD l at 32 ≡ 32 = sym (c .before .before .byte-at .ensures) ∙ c .before .if2 .taken in
-    let read : take (count + 1) (set numbers count value) ≡ ns ++ value ∷ [] = ap (λ (n : ℕ). take n (set numbers count value)) (add-one count) ∙ take-suc-set numbers count value (omega arith) in (
+    let read : take (count + 1) (set numbers count value) ≡ ns ++ value ∷ [] = ap (λ (n : ℕ). take n (set numbers count value)) (add-one count)
+    ∙ take-suc-set numbers count value (omega arith) in (
       length-set numbers count value ∙ c .before .before .before .before .before .fields .inv .0,
       omega arith,
       ends,
@@ -155,13 +161,15 @@ returns-2 c =
 returns-3 : tie.Need-returns-3 Inv-loop μ-loop Inv-fields μ-fields
 returns-3 c =
     let l : List ℕ = now (c .before .before .before .before .before .before .before .before .before .before .args .line) in
-    let ns : List ℕ = take (c .before .before .before .before .before .before .before .fields .count) (c .before .before .before .before .before .before .before .fields .numbers) in
+    let ns : List ℕ = take (c .before .before .before .before .before .before .before .fields .count)
+    (c .before .before .before .before .before .before .before .fields .numbers) in
     let begin : ℕ = c .before .before .before .before .before .before .before .fields .at + 1 in
     let at : ℕ = c .before .before .before .before .before .loop .at in
     let value : ℕ = c .before .before .before .before .before .loop .value in
     let goes : (getD l at 32 ≡ 32 → ⊥) = λ e. c .before .before .before .if2 .left (c .before .before .before .before .byte-at .ensures ∙ e) in (
       c .before .before .before .before .before .loop .inv .2 ∙ number-breaks l at ns (at - begin) value goes
-          (ap (digitBehind (at - begin) value) (sym (c .before .before .before .before .byte-at .ensures)) ∙ sym (c .before .before .digit-behind .ensures) ∙ c .enum-told .given .1),
+          (ap (digitBehind (at - begin) value) (sym (c .before .before .before .before .byte-at .ensures)) ∙ sym (c .before .before .digit-behind .ensures)
+          ∙ c .enum-told .given .1),
       omega arith,
     )
 

@@ -88,7 +88,8 @@ returns-5 : tie.Need-returns-5
 unfolding askedBy
 returns-5 c =
     by-word _ _ _ _ _ (c .before .before .enum-told5 .given .1)
-    (c .taking4 .ensures ∙ ap (λ (w : Wait). withCount 4 (c .before .before .before .before .args .count) (Obtain (c .before .before .before .before .args .a) (c .before .before .before .before .args .b) w)) (c .before .wait-of .ensures))
+    (c .taking4 .ensures ∙ ap (λ (w : Wait). withCount 4 (c .before .before .before .before .args .count)
+    (Obtain (c .before .before .before .before .args .a) (c .before .before .before .before .args .b) w)) (c .before .wait-of .ensures))
 
 returns-6 : tie.Need-returns-6
 unfolding askedBy

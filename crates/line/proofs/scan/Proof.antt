@@ -70,8 +70,9 @@ returns-3 c =
 
 returns-4 : tie.Need-returns-4
 returns-4 c =
-    let l : List ℕ = now (c .before .before .before .before .before .before .before .before .before .before .before .before .before .before .before .before .args .line) in
-    let word = c .before .before .before .before .before .before .before .before .before .before .before .before .before .word-length in
+    let measured = c .before .before .before .before .before .before .before .before .before .before .before .before .before in
+    let l : List ℕ = now (measured .before .before .before .args .line) in
+    let word = measured .word-length in
     let kind = c .before .before .before .before .before .before .before .before .before .before .before .word-of in
     let read = c .before .before .before .before .before .before .before .before .read-numbers in
     let count = c .before .before .before .before .before .before .count .given in

@@ -39,7 +39,8 @@ same-length-3 c = omega arith
 returns : tie.Need-returns Inv-loop μ-loop
 returns c =
     let read = c .before .before .before .before .before .before .before .before .answer-read in
-    stops (read .result) _ _ _ (c .before .before .before .before .before .before .before .before .before .before .before .before .before .before .loop .inv .3) _ (read .ensures .heard) (read .ensures .does)
+    let reached = c .before .before .before .before .before .before .before .before .before .before .before .before .before .before .loop .inv .3 in
+    stops (read .result) _ _ _ reached _ (read .ensures .heard) (read .ensures .does)
 
 sub-turns : tie.Need-sub-turns Inv-loop μ-loop
 sub-turns c = omega arith
@@ -49,8 +50,14 @@ loop-less c = omega arith
 
 loop-again : tie.Need-loop-again Inv-loop μ-loop
 loop-again c =
-    let read = c .before .before .before .before .before .before .before .before .answer-read in
-    (omega arith, omega arith, omega arith, goes-on (read .result) _ _ _ (c .before .before .before .before .before .before .before .before .before .before .before .before .before .before .loop .inv .3) _ (read .ensures .heard) (read .ensures .does) (not-false _ (c .if1 .left)))
+    let read = c .before .before .before .before .before .before .before .before .answer-read in (
+      omega arith,
+      omega arith,
+      omega arith,
+      goes-on (read .result) _ _ _
+          (c .before .before .before .before .before .before .before .before .before .before .before .before .before .before .loop .inv .3) _
+          (read .ensures .heard) (read .ensures .does) (not-false _ (c .if1 .left)),
+    )
 
 same-length-4 : tie.Need-same-length-4 Inv-loop μ-loop
 same-length-4 c = omega arith

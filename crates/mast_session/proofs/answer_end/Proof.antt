@@ -18,7 +18,8 @@ same-length c = search needs
 returns : tie.Need-returns
 returns c =
     let start = c .before .before .before .before .before .before .before .before in
-    ends (keeps (now (start .args .m)) (now (start .args .line)) (start .args .begun)) (c .before .before .before .before .finish .ensures) (c .say-last .result) (c .say-last .ensures)
+    ends (keeps (now (start .args .m)) (now (start .args .line)) (start .args .begun)) (c .before .before .before .before .finish .ensures)
+    (c .say-last .result) (c .say-last .ensures)
 
 pub answer-end-spec : {M : Type 1} → statement M
 answer-end-spec = tie.close (tie.spec finish-requires say-last-requires same-length returns)

@@ -59,7 +59,8 @@ same-length-3 c = search needs
 returns-2 : tie.Need-returns-2
 returns-2 c =
     let start = c .before .before .before .before .before .before .before .before .before .before .before in
-    does-as End _ (keeps (now (start .args .m)) (now (start .args .line)) (start .args .begun)) (now (start .args .input)) _ _ (c .before .before .before .before .before .enum-told .given .1)
+    does-as End _ (keeps (now (start .args .m)) (now (start .args .line)) (start .args .begun)) (now (start .args .input)) _ _
+    (c .before .before .before .before .before .enum-told .given .1)
     (c .before .before .answer-end .ensures, refl)
 
 returns-3 : tie.Need-returns-3

@@ -24,7 +24,8 @@ abbrev μ-loop : tie.MeasureT-loop
 
 -- after a turn, with what it took and said
 abbrev input-at : tie.After-struct-known2 Inv-loop μ-loop → List ℕ
-input-at c = now (c .before .before .before .before .before .before .before .before .before .before .before .before .before .before .before .before .args .input)
+input-at c =
+    now (c .before .before .before .before .before .before .before .before .before .before .before .before .before .before .before .before .args .input)
 
 abbrev kept-at : tie.After-struct-known2 Inv-loop μ-loop → Kept
 kept-at c =
@@ -32,10 +33,13 @@ kept-at c =
     keeps (now (start .args .m)) (now (start .args .line)) (start .args .begun)
 
 turned : (c : tie.After-struct-known2 Inv-loop μ-loop) (going : Bool)
-    → Turned (turn (c .before .before .before .before .before .before .before .before .before .before .before .before .loop .taken + c .before .before .before .before .before .before .answer-some .result .taken)
+    → Turned (turn (c .before .before .before .before .before .before .before .before .before .before .before .before .loop .taken +
+    c .before .before .before .before .before .before .answer-some .result .taken)
     (c .before .before .before .before .before .before .answer-some .result .begun)
-    (c .before .before .before .before .before .before .before .before .before .before .before .before .loop .said + c .before .before .before .before .before .before .answer-some .result .said) going)
-    (kept-at c) (input-at c) (c .before .before .before .before .before .before .answer-some .last .0) (c .before .before .before .before .before .before .answer-some .last .1 .0)
+    (c .before .before .before .before .before .before .before .before .before .before .before .before .loop .said +
+    c .before .before .before .before .before .before .answer-some .result .said) going)
+    (kept-at c) (input-at c) (c .before .before .before .before .before .before .answer-some .last .0)
+    (c .before .before .before .before .before .before .answer-some .last .1 .0)
 turned c going =
     let at = c .before .before .before .before .before .before .before .before .before .before .before .before .loop in
     let answer = c .before .before .before .before .before .before .answer-some in
@@ -65,7 +69,13 @@ add-taken c = search needs
 add-said : tie.Need-add-said Inv-loop μ-loop
 add-said c =
     let few = turned-few (kept-at c) (input-at c) _ _ _ (turned c true) in
-    record { fits = omega (arith, few, c .before .before .before .before .before .before .before .before .before .before .before .before .before .before .before .before .pre .1) }
+    record {
+      fits = omega (
+        arith,
+        few,
+        c .before .before .before .before .before .before .before .before .before .before .before .before .before .before .before .before .pre .1,
+      );
+    }
 
 same-length : tie.Need-same-length Inv-loop μ-loop
 same-length c = search needs
@@ -77,7 +87,8 @@ returns : tie.Need-returns Inv-loop μ-loop
 returns c = (turned (c .before .before) _, λ e. never e refl)
 
 loop-less : tie.Need-loop-less Inv-loop μ-loop
-loop-less c = omega (arith, turned (c .before .before) true .inside, c .before .before .before .before .before .before .before .before .answer-some .ensures .some)
+loop-less c =
+    omega (arith, turned (c .before .before) true .inside, c .before .before .before .before .before .before .before .before .answer-some .ensures .some)
 
 loop-again : tie.Need-loop-again Inv-loop μ-loop
 loop-again c = (omega arith, omega arith, turned (c .before .before) true)

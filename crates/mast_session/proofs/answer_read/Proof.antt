@@ -19,7 +19,11 @@ same-length-3 : tie.Need-same-length-3
 same-length-3 c = search needs
 
 returns : tie.Need-returns
-returns c = record { heard = c .before .before .before .before .before .before .before .before .before .before .before .hear .result; does = c .before .before .before .before .answer-heard .ensures }
+returns c =
+    record {
+      heard = c .before .before .before .before .before .before .before .before .before .before .before .hear .result;
+      does = c .before .before .before .before .answer-heard .ensures;
+    }
 
 pub answer-read-spec : {M : Type 1} → statement M
 answer-read-spec =

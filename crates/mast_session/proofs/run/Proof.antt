@@ -22,7 +22,13 @@ slice-aggregate-answer-all-3 : tie.Need-slice-aggregate-answer-all-3
 slice-aggregate-answer-all-3 c = search needs
 
 answer-all-requires : tie.Need-answer-all-requires
-answer-all-requires c κs = (omega (arith, c .before .before .before .before .large-buffer2 .ensures), omega (arith, c .before .before .before .before .before .large-buffer .ensures), refl, sym laid-unstarted)
+answer-all-requires c κs = (
+  omega (arith, c .before .before .before .before .large-buffer2 .ensures),
+  omega
+      (arith, c .before .before .before .before .before .large-buffer .ensures),
+  refl,
+  sym laid-unstarted,
+)
 
 returns : tie.Need-returns
 returns c = search needs

@@ -16,11 +16,15 @@ use Rattle.session.proofs.answer_line.Statement.{statement}
 use Rattle.session.proofs.answer_line.Tie as tie
 
 -- the answer line ends within the output
-within : (c : tie.After-slice-known5) → c .before .before .before .before .before .before .before .before .before .before .before .before .before .before .before .before .before .args .at + c .before .before .print-answer .result ≤ length (now (c .before .before .before .before .before .before .before .before .before .before .before .before .before .before .before .before .before .args .out))
+within : (c : tie.After-slice-known5)
+    → c .before .before .before .before .before .before .before .before .before .before .before .before .before .before .before .before .before .args .at +
+    c .before .before .print-answer .result ≤ length
+    (now (c .before .before .before .before .before .before .before .before .before .before .before .before .before .before .before .before .before .args .out))
 within c =
     let start = c .before .before .before .before .before .before .before .before .before .before .before .before .before .before .before .before .before in
     let put = c .before .before .print-answer in
-    let ends = written-fits (start .args .at) (answerLine (c .before .before .before .before .before .before .call-with .result)) (now (start .args .out)) _ _ _ refl (put .ensures .0) (put .ensures .1) (put .kept .0) (omega (arith, start .pre)) in
+    let ends = written-fits (start .args .at) (answerLine (c .before .before .before .before .before .before .call-with .result))
+    (now (start .args .out)) _ _ _ refl (put .ensures .0) (put .ensures .1) (put .kept .0) (omega (arith, start .pre)) in
     omega (arith, ends, put .ensures .0)
 
 scan-requires : tie.Need-scan-requires
@@ -73,7 +77,8 @@ returns c =
     let start = c .before .before .before .before .before .before .before .before .before .before .before in
     let scan = c .before .before .before .before .before .before .scan in
     let put = c .before .before .print-bad in
-    let bad : lineOf (now (start .args .line)) ≡ none = scan .ensures ∙ ap (λ (l : Line). scanned l (scan .last .1 .0)) (c .before .before .before .before .enum-told .given .1) in
+    let bad : lineOf (now (start .args .line)) ≡ none = scan .ensures ∙ ap (λ (l : Line). scanned l (scan .last .1 .0))
+    (c .before .before .before .before .enum-told .given .1) in
     writes-bad (now (start .args .m)) (respond-is (now (start .args .m)) (now (start .args .line)) bad)
     (ap (λ (n : ℕ). start .args .at + n) (put .ensures .0))
     (written-at (start .args .at) badLine (now (start .args .out)) _ _ 4 refl refl (put .ensures .1))
@@ -92,10 +97,14 @@ returns-2 c =
     let called = c .before .before .before .before .before .before .call-with in
     let put = c .before .before .print-answer in
     let line : List ℕ = now (start .args .line) in
-    let asked : lineOf line ≡ scanned (Asked (given .0 .0) (given .0 .1 .0)) (scan .last .1 .0) = scan .ensures ∙ ap (λ (l : Line). scanned l (scan .last .1 .0)) (given .1) in
+    let asked : lineOf line ≡ scanned (Asked (given .0 .0) (given .0 .1 .0)) (scan .last .1 .0) = scan .ensures ∙ ap
+    (λ (l : Line). scanned l (scan .last .1 .0)) (given .1) in
     writes-asked (now (start .args .m)) line _ _ _ _ asked (called .ensures)
     (ap (λ (n : ℕ). start .args .at + n) (put .ensures .0))
     (written-at (start .args .at) (answerLine (called .result)) (now (start .args .out)) _ _ _ refl (put .ensures .0) (put .ensures .1))
 
 pub answer-line-spec : {M : Type 1} → statement M
-answer-line-spec = tie.close (tie.spec scan-requires enum-told sub-print-bad part-print-bad-start part-print-bad-end print-bad-requires add-result enum-known-scanned call-with-requires sub-print-answer part-print-answer-start part-print-answer-end print-answer-requires add-result-2 same-length returns same-length-2 same-length-3 returns-2)
+answer-line-spec =
+    tie.close (tie.spec scan-requires enum-told sub-print-bad part-print-bad-start part-print-bad-end print-bad-requires add-result enum-known-scanned
+    call-with-requires sub-print-answer part-print-answer-start part-print-answer-end print-answer-requires add-result-2 same-length returns same-length-2
+    same-length-3 returns-2)

@@ -31,7 +31,8 @@ returns : tie.Need-returns
 returns c =
     let start = c .before .before .before .before .before .before .before .before in
     let rest : List ℕ = drop 1 (now (start .args .numbers)) in
-    let same = c .before .before .before .before .before .end-of .ensures .2 rest (omega (arith, length-drop 1 (now (start .args .numbers)), c .before .before .before .before .before .before .all .given .0)) in
+    let same = c .before .before .before .before .before .end-of .ensures .2 rest
+    (omega (arith, length-drop 1 (now (start .args .numbers)), c .before .before .before .before .before .before .all .given .0)) in
     replied-same (now (start .args .m)) (start .args .call) same (c .before .before .call .ensures)
 
 pub call-with-spec : {M : Type 1} → statement M

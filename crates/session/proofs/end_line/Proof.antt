@@ -56,7 +56,10 @@ returns-2 : tie.Need-returns-2
 returns-2 c =
     let start = c .before .before .before .before .before .before .before .before .before .before .before .before in
     let kept : Kept = keeps (now (start .args .m)) (now (start .args .line)) (start .args .begun) in
-    writes-same (sym (end-few kept (c .before .before .before .before .before .before .before .before .if1 .left))) (c .before .before .before .before .answer-line .ensures)
+    writes-same (sym (end-few kept (c .before .before .before .before .before .before .before .before .if1 .left)))
+    (c .before .before .before .before .answer-line .ensures)
 
 pub end-line-spec : {M : Type 1} → statement M
-end-line-spec = tie.close (tie.spec sub-print-bad part-print-bad-start part-print-bad-end print-bad-requires add-result same-length returns slice-aggregate-answer-line answer-line-requires same-length-2 same-length-3 returns-2)
+end-line-spec =
+    tie.close (tie.spec sub-print-bad part-print-bad-start part-print-bad-end print-bad-requires add-result same-length returns slice-aggregate-answer-line
+    answer-line-requires same-length-2 same-length-3 returns-2)

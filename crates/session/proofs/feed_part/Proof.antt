@@ -52,7 +52,8 @@ loop-less c = search needs
 
 loop-again : tie.Need-loop-again Inv-loop μ-loop
 loop-again c =
-    let start = c .before .before .before .before .before .before .before .before .before .before .before .before .before .before .before .before .before .before in
+    let start =
+    c .before .before .before .before .before .before .before .before .before .before .before .before .before .before .before .before .before .before in
     let at-loop = c .before .before .before .before .before .before .before .before .before .before .before .before .before .loop in
     let kept : Kept = keeps (now (start .args .m)) (now (start .args .line)) (start .args .begun) in
     let step = c .before .before .before .before .before .before .take-byte in
@@ -71,7 +72,10 @@ same-length-6 : tie.Need-same-length-6 Inv-loop μ-loop
 same-length-6 c = search needs
 
 returns-2 : tie.Need-returns-2 Inv-loop μ-loop
-returns-2 c = fed-is (c .before .loop .inv) (taken-none _ (now (c .before .before .before .before .before .before .args .input)) (c .before .loop .taken) _ (omega arith))
+returns-2 c =
+    fed-is (c .before .loop .inv) (taken-none _ (now (c .before .before .before .before .before .before .args .input)) (c .before .loop .taken) _ (omega arith))
 
 pub feed-part-spec : {M : Type 1} → statement M
-feed-part-spec = tie.close (tie.spec Inv-loop μ-loop loop-holds sub-if1 same-length same-length-2 same-length-3 returns shared-slice-read-take-byte take-byte-requires add-taken loop-less loop-again same-length-4 same-length-5 same-length-6 returns-2)
+feed-part-spec =
+    tie.close (tie.spec Inv-loop μ-loop loop-holds sub-if1 same-length same-length-2 same-length-3 returns shared-slice-read-take-byte take-byte-requires
+    add-taken loop-less loop-again same-length-4 same-length-5 same-length-6 returns-2)

@@ -22,7 +22,8 @@ returns : tie.Need-returns
 returns c =
     let start = c .before .before .before .before .before .before .before .before .before .before .before .before in
     let kept : Kept = keeps (now (start .args .m)) (now (start .args .line)) (start .args .begun) in
-    took-newline kept (start .args .b) (c .before .before .before .before .before .before .before .before .if1 .taken) (c .before .before .before .before .end-line .ensures)
+    took-newline kept (start .args .b) (c .before .before .before .before .before .before .before .before .if1 .taken)
+    (c .before .before .before .before .end-line .ensures)
 
 lengthened-requires : tie.Need-lengthened-requires
 lengthened-requires c κs = search needs

@@ -1,4 +1,4 @@
--- `line::same` meets its contract. The invariant: the words are the same if what is left of them is.
+-- `line::same_bytes` meets its contract. The invariant: the words are the same if what is left of them is.
 use mathlib.Core.List.{List}
 use mathlib.Core.Path.{_≡_, sym, _∙_}
 use Prim.Native.Nat.{ℕ, _≤_, _-_}
@@ -6,10 +6,10 @@ use native.Mathlib.Omega.{arith}
 use denote.Ref.{now}
 use lib.ListN.{length, drop}
 use borrow.Author.Needs.{needs}
-use Rattle.line.specs.Line.{same as sameBytes}
+use Rattle.line.specs.Line.{sameBytes}
 use Rattle.line.proofs.Words.{same-lengths, same-here, other-here, same-over}
-use Rattle.line.proofs.same.Statement.{statement}
-use Rattle.line.proofs.same.Tie as tie
+use Rattle.line.proofs.same_bytes.Statement.{statement}
+use Rattle.line.proofs.same_bytes.Tie as tie
 
 abbrev Inv-loop : tie.InvT-loop
 Inv-loop a b i₀ i = (i ≤ length a) × (sameBytes a b ≡ sameBytes (drop i a) (drop i b))
@@ -56,8 +56,8 @@ returns-3 c =
     let i : ℕ = c .before .loop .i in
     sym (c .before .loop .inv .1 ∙ same-over a b i (omega arith) (omega arith))
 
-pub same-spec : {M : Type 1} → statement M
-same-spec =
+pub same-bytes-spec : {M : Type 1} → statement M
+same-bytes-spec =
     tie.close
     (tie.spec
     Inv-loop
