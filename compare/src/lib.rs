@@ -8,5 +8,6 @@ pub mod fuzz;
 pub mod inplace;
 pub mod layout;
 pub mod model;
+pub mod record;
 pub mod session;
 pub mod status;

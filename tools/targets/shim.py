@@ -1,0 +1,76 @@
+"""Writes the C functions of include/mastclover.h over the proved module's inner functions: shim.py OUT.c"""
+import re
+import sys
+
+from exported import Unknown, capi
+
+HEAD = """/* Made by tools/targets/shim.py from crates/capi: the header's functions over the proved module's. */
+#include "mastclover.h"
+
+/* A lent slice as the proved module lays it out on every processor. */
+typedef struct {
+    _Alignas(8) const void *first;
+    _Alignas(8) uint64_t length;
+} mast_slice;
+_Static_assert(sizeof(mast_slice) == 16 && offsetof(mast_slice, length) == 8, "a slice is a pointer at 0 and 64 bits of length at 8");
+"""
+
+
+def c_name(struct):
+    """Answer is mast_answer in the header."""
+    return "mast_" + re.sub(r"(?<!^)([A-Z])", r"_\1", struct).lower()
+
+
+def c_number(kind):
+    return {"u32": "uint32_t", "u64": "uint64_t", "usize": "size_t"}[kind]
+
+
+def layout(function):
+    """The header's struct has the proved one's layout, or the shim does not compile."""
+    name = c_name(function.answer)
+    tests = [f"sizeof({name}) == {function.size}"]
+    for field, kind, at in function.fields:
+        tests.append(f"offsetof({name}, {field}) == {at} && sizeof((({name} *)0)->{field}) * 8 == {kind[1:]}")
+    return "".join(f'_Static_assert({test}, "{name} has the layout of {function.answer}");\n' for test in tests)
+
+
+def shim(function):
+    given = c_name(function.answer) if function.answer else {"i32": "uint32_t", "i64": "uint64_t", None: "void"}[function.number]
+    inner, outer, slices, passed = [], [], [], []
+    if function.answer:
+        inner.append(f"{given} *")
+        passed.append("&answer")
+    for each in function.parameters:
+        if each.slice:
+            kind = f"uint{each.slice[2][1:]}_t"
+            outer += [f"{'' if each.slice[1] else 'const '}{kind} *{each.name}", f"size_t {each.name}_length"]
+            slices.append(f"    mast_slice {each.name}_slice = {{ {each.name}, {each.name}_length }};\n")
+            inner.append("const mast_slice *")
+            passed.append(f"&{each.name}_slice")
+        else:
+            inner.append("uint64_t" if each.kind == "usize" else c_number(each.kind))
+            outer.append(f"{c_number(each.kind)} {each.name}")
+            passed.append(each.name)
+    raw = f"capi_{function.name}"
+    text = f"\n{'void' if function.answer else given} {raw}({', '.join(inner) or 'void'});\n\n"
+    text += f"{given} {function.name}({', '.join(outer) or 'void'})\n{{\n{''.join(slices)}"
+    call = f"{raw}({', '.join(passed)});\n"
+    if function.answer:
+        text += f"    {given} answer;\n    {call}    return answer;\n"
+    else:
+        text += f"    {'return ' if function.number else ''}{call}"
+    return text + "}\n"
+
+
+def main():
+    try:
+        found = capi()
+    except Unknown as unknown:
+        sys.exit(f"shim.py: {unknown}")
+    structs = {each.answer: layout(each) for each in found if each.answer}
+    with open(sys.argv[1], "w") as out:
+        out.write(HEAD + "".join(structs.values()) + "".join(map(shim, found)))
+
+
+if __name__ == "__main__":
+    main()
