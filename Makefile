@@ -28,8 +28,13 @@ else
 	@python3 tools/show_session.py build/mast-session examples/worked.session examples/day.session
 endif
 
-# The static library for C, from the proved crate capi.
+# The static library for C, from the proved crate capi; with TARGET=name, for a processor of tools/targets/table.txt.
+ifeq ($(origin TARGET),command line)
+lib:
+	@bash tools/targets/build "$(TARGET)"
+else
 lib: build/libmastclover.a
+endif
 
 build/libmastclover.a: FORCE
 	@mkdir -p build
@@ -74,6 +79,15 @@ bench: compare build
 stack: lib
 	@$(CC) -std=gnu99 -Wall -Wextra -O2 -Wl,-z,now -Iinclude tools/stack.c build/libmastclover.a -o build/stack
 	@build/stack
+
+# The libraries for other processors: code, what they need and the stack they take; and their runs under emulators.
+.PHONY: targets test-targets
+targets:
+	@bash tools/targets/all
+
+CALLS ?= 1000000
+test-targets:
+	@MAST_EMULATORS=required bash tools/targets/test $(CALLS) $(SEED)
 
 clean:
 	rm -rf target build compare/target

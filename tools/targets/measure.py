@@ -2,7 +2,7 @@
 
 measure.py TARGET..                 prints the tables of docs/TARGETS.md
 measure.py --check TARGET           fails if the library needs what the header does not name, or has no bound on its stack
-measure.py --painted REPORT TARGET  fails if replay.c found more stack used than the bound
+measure.py --painted FOLDER TARGET  fails if replay.c, run in that folder, found more stack used than the bound
 measure.py --bars TARGET BYTES STACK  fails if code and constants, or the most stack, reach these numbers
 
 The stack of a function is its frame, which the compiler reports (-fstack-usage), and that of the deepest chain of functions it
@@ -10,6 +10,7 @@ calls, taken from the assembly: any mention of another function counts as a call
 import re
 import struct
 import sys
+from pathlib import Path
 
 from exported import ROOT, capi
 
@@ -136,17 +137,26 @@ def print_tables(targets):
         print(f"| {function.name} | {' | '.join(str(found[target][2][function.name]) for target in targets)} |")
 
 
-def check_painted(report, target):
+def check_painted(run, target):
     """Painted stacks are within the bounds, given what replay.c's own memcpy and memset take."""
     bounds = stacks(target)
-    own = dict(line.split("\t")[:2] for line in (folder(target) / "replay.su").read_text().splitlines())
+    own = dict(line.split("\t")[:2] for line in (run / "replay.su").read_text().splitlines())
     extra = sum(int(size) for place, size in own.items() if place.endswith((":memcpy", ":memmove", ":memset")))
-    found = re.findall(r"^(mast_\w+) (\d+)$", open(report).read(), re.M)
+    found = re.findall(r"^(mast_\w+) (\d+)$", (run / "out").read_text(), re.M)
     if {name for name, _ in found} != set(bounds):
         fail(f"{target}: the report has not every function's stack")
     for name, painted in found:
         if int(painted) > bounds[name] + extra:
             fail(f"{target}: {name} took {painted} bytes of stack, and its bound is {bounds[name]}, with {extra} for memcpy and memset")
+
+
+def print_instructions(run):
+    """The most instructions of a call, from a run on a board, where 100,000 loops of two instructions tell what a count of its clock is."""
+    report = (run / "out").read_text()
+    loops = re.search(r"^counts in loops (\d+)$", report, re.M)
+    if loops:
+        found = re.findall(r"^([a-z]+) (\d+)$", report, re.M)
+        print("  instructions at most: " + ", ".join(f"{name} {int(counts) * 200000 // int(loops[1]):,}" for name, counts in found))
 
 
 def check_bars(target, most_bytes, most_stack):
@@ -159,8 +169,9 @@ def main():
     match sys.argv[1:]:
         case ["--check", target]:
             measured(target)
-        case ["--painted", report, target]:
-            check_painted(report, target)
+        case ["--painted", run, target]:
+            check_painted(Path(run), target)
+            print_instructions(Path(run))
         case ["--bars", target, most_bytes, most_stack]:
             check_bars(target, most_bytes, most_stack)
         case targets:

@@ -66,7 +66,7 @@ def check_pointers(function, lines):
             base, offset = places.get(found[2], (found[2], 0))
             size = 8 if found[1] == "ptr" else -(-int(found[1][1:]) // 8)
             held |= {(base, offset + at, found[1] == "ptr") for at in range(size)}
-    for base, at, _ in held:
+    for base, at, _ in sorted(held):
         if {(base, at, True), (base, at, False)} <= held:
             raise Unknown(f"byte {at} of {base} belongs to a pointer and to a number, in {function}")
 
