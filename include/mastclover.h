@@ -2,8 +2,8 @@
  * mastclover.h - a semaphore manager with the rules of RTEMS Classic, for one processor.
  *
  * The manager keeps tasks and semaphores in memory that the caller lends; it has no state of its
- * own, allocates nothing and calls only memcpy. It does not switch tasks either: every call says in
- * `next` which task should run now, and the firmware switches to it.
+ * own, allocates nothing and calls only memcpy, memmove and memset. It does not switch tasks either:
+ * every call says in `next` which task should run now, and the firmware switches to it.
  *
  *     static uint8_t tables[MAST_TABLES_LENGTH];               (all zeros: not started yet)
  *     static const uint32_t priorities[] = { 10, 20 };         (task 1 and task 2)
@@ -13,7 +13,8 @@
  *     mast_id bus = answer.value;
  *     answer = mast_obtain(tables, sizeof tables, 2, bus, MAST_WAIT, MAST_NO_TIMEOUT);
  *
- * Link with libmastclover.a, which is built for x86-64 Linux today.
+ * Link with libmastclover.a: `make lib` builds it for x86-64 Linux, and `make lib TARGET=cortex-m4` (or
+ * another line of tools/targets/table.txt) for a board. docs/TARGETS.md has what code and stack it takes.
  *
  * Tasks are numbered 1 to N in the order of their priorities at start, N at most 32. Priority 1 is
  * the most urgent, 255 the least. A task is ready, or waits on one semaphore.

@@ -7,7 +7,9 @@
  * - A call must not be interrupted by another one on the same tables, so interrupts are masked around each: see call() and done().
  * - Task 0 is nobody: while no task is ready, `next` is 0 and the idle loop runs, which is what start() becomes.
  *
- * It prints by semihosting, to a debugger or an emulator; without one put your own in the place of say() and stop().
+ * It prints by semihosting, to a debugger or an emulator; without one put your own in the place of say() and stop(). To link it:
+ *
+ *     arm-none-eabi-gcc -mcpu=cortex-m4 -mthumb -Os -ffreestanding -nostdlib -Iinclude -T board.ld board.c libmastclover.a
  */
 #include "mastclover.h"
 
@@ -185,10 +187,13 @@ uint32_t *switch_stacks(uint32_t *now)
     return stack_pointers[running];
 }
 
-/* PendSV: the processor has saved r0 to r3, r12, lr, pc and psr on the task's stack; r4 to r11 go below them. */
+/*
+ * PendSV: the processor has saved r0 to r3, r12, lr, pc and psr on the task's stack; r4 to r11 go below them. Tasks that compute with
+ * floats in registers need those saved as well.
+ */
 __attribute__((naked)) void switch_tasks(void)
 {
-    __asm__ volatile("mrs r0, psp\n subs r0, #32\n mov r1, r0\n stmia r1!, {r4-r7}\n"
+    __asm__ volatile(".syntax unified\n mrs r0, psp\n subs r0, #32\n mov r1, r0\n stmia r1!, {r4-r7}\n"
                      "mov r4, r8\n mov r5, r9\n mov r6, r10\n mov r7, r11\n stmia r1!, {r4-r7}\n"
                      "push {r3, lr}\n bl switch_stacks\n pop {r2, r3}\n"
                      "mov r1, r0\n adds r1, #16\n ldmia r1!, {r4-r7}\n mov r8, r4\n mov r9, r5\n mov r10, r6\n mov r11, r7\n"
@@ -216,7 +221,7 @@ __attribute__((used)) static uint32_t *const idle_top = idle_stack + IDLE_STACK 
 /* From here on the handlers alone use the first stack: start() runs on the idle loop's, as the tasks do on theirs. */
 __attribute__((naked)) void reset(void)
 {
-    __asm__ volatile("ldr r0, =idle_top\n ldr r0, [r0]\n msr psp, r0\n movs r0, #2\n msr control, r0\n isb\n bl start\n .ltorg\n");
+    __asm__ volatile(".syntax unified\n ldr r0, =idle_top\n ldr r0, [r0]\n msr psp, r0\n movs r0, #2\n msr control, r0\n isb\n bl start\n .ltorg\n");
 }
 
 /* What a task finds on its stack when it is switched to for the first time. */

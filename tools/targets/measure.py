@@ -34,6 +34,7 @@ class Elf:
         strings = [data[row[4]:row[4] + row[5]] for row in rows]
         text = lambda table, offset: strings[table][offset:strings[table].index(b"\0", offset)].decode()
         self.loaded = sum(row[5] for row in rows if row[2] & 2)
+        self.writable = sum(row[5] for row in rows if row[2] & 3 == 3)
         self.undefined, self.defined = set(), set()
         for row in rows:
             if row[1] == 2:
@@ -121,6 +122,8 @@ def measured(target):
             fail(f"{target}: mast.wasm has imports, and nobody gives it any")
         return code, set(), stacks(target)
     parts = [Elf((folder(target) / f"{part}.o").read_bytes()) for part in PARTS]
+    if any(part.writable for part in parts):
+        fail(f"{target}: the library has writable data of its own")
     needs = set.union(*(part.undefined for part in parts)) - set.union(*(part.defined for part in parts))
     if not needs <= NEEDED:
         fail(f"{target}: the library needs {', '.join(sorted(needs - NEEDED))}, which the header does not name")
