@@ -4,7 +4,7 @@
  * draws. Copy it, and put your tasks in the place of these.
  *
  * - Every call's answer names the task to run, `next`. PendSV, the least urgent interrupt, switches to it.
- * - A call must not be interrupted by another one on the same tables, so interrupts are masked around each: see call() and done().
+ * - A call must not be interrupted by another one on the same tables, so interrupts are masked around each: see mask() and heed().
  * - Task 0 is nobody: while no task is ready, `next` is 0 and the idle loop runs, which is what start() becomes.
  *
  * It prints by semihosting, to a debugger or an emulator; without one put your own in the place of say() and stop(). To link it:
@@ -71,7 +71,7 @@ __attribute__((noreturn)) static void stop(const char *why, int well)
 /* ---- calls */
 
 /* Masks interrupts, and says whether they were masked already. */
-static uint32_t call(void)
+static uint32_t mask(void)
 {
     uint32_t masked;
     __asm__ volatile("mrs %0, primask\n cpsid i" : "=r"(masked) : : "memory");
@@ -79,7 +79,7 @@ static uint32_t call(void)
 }
 
 /* Has the task that an answer names run, as soon as interrupts are as they were before the call. */
-static mast_answer done(uint32_t masked, mast_answer answer)
+static mast_answer heed(uint32_t masked, mast_answer answer)
 {
     if (answer.status == MAST_INTERNAL_ERROR)
         stop("the tables are damaged\n", 0);
@@ -99,31 +99,31 @@ static mast_answer expect(mast_answer answer)
 
 static uint32_t create(uint32_t caller, uint32_t name, uint32_t count, uint32_t attributes)
 {
-    uint32_t masked = call();
-    return expect(done(masked, mast_create(tables, sizeof tables, caller, name, count, attributes))).value;
+    uint32_t masked = mask();
+    return expect(heed(masked, mast_create(tables, sizeof tables, caller, name, count, attributes))).value;
 }
 
-/* How the obtain ended, waited for or not. If it waits, the switch comes with done(), and the task goes on here when it is ready. */
+/* How the obtain ended, waited for or not. If it waits, the switch comes with heed(), and the task goes on here when it is ready. */
 static uint32_t obtain(uint32_t caller, uint32_t id, uint32_t timeout)
 {
-    uint32_t masked = call();
-    uint32_t status = done(masked, mast_obtain(tables, sizeof tables, caller, id, MAST_WAIT, timeout)).status;
+    uint32_t masked = mask();
+    uint32_t status = heed(masked, mast_obtain(tables, sizeof tables, caller, id, MAST_WAIT, timeout)).status;
     if (status != MAST_WAITING)
         return status;
-    masked = call();
-    return expect(done(masked, mast_task(tables, sizeof tables, caller))).value;
+    masked = mask();
+    return expect(heed(masked, mast_task(tables, sizeof tables, caller))).value;
 }
 
 static void release(uint32_t caller, uint32_t id)
 {
-    uint32_t masked = call();
-    expect(done(masked, mast_release(tables, sizeof tables, caller, id)));
+    uint32_t masked = mask();
+    expect(heed(masked, mast_release(tables, sizeof tables, caller, id)));
 }
 
 static void delete_semaphore(uint32_t caller, uint32_t id)
 {
-    uint32_t masked = call();
-    expect(done(masked, mast_delete(tables, sizeof tables, caller, id)));
+    uint32_t masked = mask();
+    expect(heed(masked, mast_delete(tables, sizeof tables, caller, id)));
 }
 
 /* ---- the tasks */
@@ -175,8 +175,8 @@ void start(void);
 
 void clock_tick(void)
 {
-    uint32_t masked = call();
-    expect(done(masked, mast_tick(tables, sizeof tables)));
+    uint32_t masked = mask();
+    expect(heed(masked, mast_tick(tables, sizeof tables)));
 }
 
 /* Gives the stack pointer of the task to run for that of the one that ran. */
@@ -247,12 +247,12 @@ static void set_memory(void)
 /* Makes what the tasks share, on the radio's behalf, lets the clock run and becomes the idle loop. */
 __attribute__((noreturn, used)) void start(void)
 {
-    uint32_t masked = call();
+    uint32_t masked = mask();
     set_memory();
     prepare(RADIO, radio);
     prepare(DISPLAY, display);
     PRIORITIES_OF_SYSTEM_HANDLERS = 0x00FF0000; /* PendSV least urgent, SysTick most */
-    expect(done(1, mast_start(tables, sizeof tables, 2, priorities, TASKS)));
+    expect(heed(1, mast_start(tables, sizeof tables, 2, priorities, TASKS)));
     packets = create(RADIO, 1, 0, MAST_COUNTING_SEMAPHORE | MAST_FIFO);
     never = create(RADIO, 2, 0, MAST_COUNTING_SEMAPHORE | MAST_FIFO);
     SYSTICK_RELOAD = CLOCK / TICKS - 1;
