@@ -9,6 +9,9 @@ clang=$own/toolchain/bin/clang
 mkdir -p "$made"
 export PYTHONDONTWRITEBYTECODE=1
 
+# For qemu's boards: what they say by semihosting is standard output, and nothing else is shown or asked.
+semihosting=(-chardev stdio,id=said -semihosting-config enable=on,target=native,chardev=said -display none -monitor none -serial none -parallel none)
+
 fail() { echo "$*" >&2; exit 1; }
 
 # The names of the table's rows.

@@ -156,10 +156,10 @@ def check_painted(run, target):
 def print_instructions(run):
     """The most instructions of a call, from a run on a board, where 100,000 loops of two instructions tell what a count of its clock is."""
     report = (run / "out").read_text()
-    loops = re.search(r"^counts in loops (\d+)$", report, re.M)
+    loops = int(re.search(r"^counts in loops (\d+)$", report, re.M)[1])
     if loops:
         found = re.findall(r"^([a-z]+) (\d+)$", report, re.M)
-        print("  instructions at most: " + ", ".join(f"{name} {int(counts) * 200000 // int(loops[1]):,}" for name, counts in found))
+        print("  instructions at most: " + ", ".join(f"{name} {int(counts) * 200000 // loops:,}" for name, counts in found))
 
 
 def check_bars(target, most_bytes, most_stack):

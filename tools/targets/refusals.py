@@ -49,7 +49,8 @@ WRAPPERS = {
     "fn f(a: u32) -> u32": "define noundef i32 @f(i32 noundef %a0) #0 {\nstart:\n  %r0 = call i32 @\"capi::f\"(i32 %a0)\n  ret i32 %r0\n}\n",
     "fn f(a: usize, b: u64) -> u64":
         "define noundef i64 @f(i64 noundef %a0, i64 noundef %a1) #0 {\nstart:\n  %r0 = call i64 @\"capi::f\"(i64 %a0, i64 %a1)\n  ret i64 %r0\n}\n",
-    "fn f(t: &mut [u8])": "define void @f(ptr noundef %a0, i64 noundef %a1) #0 {\nstart:\n  %r0 = alloca [16 x i8], align 8\n  store ptr %a0, ptr %r0, align 8\n"
+    "fn f(t: &mut [u8])":
+        "define void @f(ptr noundef %a0, i64 noundef %a1) #0 {\nstart:\n  %r0 = alloca [16 x i8], align 8\n  store ptr %a0, ptr %r0, align 8\n"
         "  %r1 = getelementptr i8, ptr %r0, i64 8\n  store i64 %a1, ptr %r1, align 8\n  call void @\"capi::f\"(ptr %r0)\n  ret void\n}\n",
     "fn f(a: u32, t: &[u8]) -> Five":
         "define noundef ptr @f(ptr noundef %a0, i32 noundef %a1, ptr noundef %a2, i64 noundef %a3) #0 {\nstart:\n  %r0 = alloca [16 x i8], align 8\n"
