@@ -16,7 +16,7 @@
 #ifndef CLOCK
 #define CLOCK 16000000 /* of the processor, per second */
 #endif
-#define TICKS 10       /* per second */
+#define TICKS 10       /* per second, by SysTick; a Cortex-M0 without it has a timer of its own that can call clock_tick() */
 
 enum { IDLE, RADIO, DISPLAY, TASKS = DISPLAY };
 
