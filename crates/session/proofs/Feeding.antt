@@ -65,14 +65,14 @@ response-few : (bs : List ℕ) (x : Option Request) → length (responseTo bs x 
 response-few bs none = omega arith
 response-few bs (some r) = answer-length (replyTo bs (r .call) (r .priorities) .answer)
 
-end-few : (k : Kept) → length (endLine k .output) ≤ 33
+answer-few : (k : Kept) → length (endLine k .output) ≤ 33
 unfolding endLine respond
-end-few k =
+answer-few k =
     choose-cases (λ (s : Response). length (s .output) ≤ 33) _ _ _ (λ _. response-few (k .bytes) (lineOf (take (k .begun) (k .line)))) (λ _. omega arith)
 
 said-few : (k : Kept) (b : ℕ) → length (saidTo k b) ≤ 33
 unfolding saidTo
-said-few k b = choose-cases (λ (l : List ℕ). length l ≤ 33) _ _ _ (λ _. end-few k) (λ _. omega arith)
+said-few k b = choose-cases (λ (l : List ℕ). length l ≤ 33) _ _ _ (λ _. answer-few k) (λ _. omega arith)
 
 pub part-few : (k : Kept) (input : List ℕ) → length (saidToPart k input) ≤ 33 * length input
 unfolding saidToPart
@@ -106,7 +106,7 @@ taken-within k (b ∷ bs) room =
 -- ---- the turns of the loop over a part
 
 -- what holds at each turn, and after the last
-pub record Turn (k : Kept) (input out₀ m line out : List ℕ) (taken at kept : ℕ) : Type 0 where
+pub record Underway (k : Kept) (input out₀ m line out : List ℕ) (taken at kept : ℕ) : Type 0 where
   pub bytes : length m ≡ length (k .bytes)
   pub full : length line ≡ 256
   pub output : length out ≡ length out₀
@@ -117,9 +117,9 @@ pub record Turn (k : Kept) (input out₀ m line out : List ℕ) (taken at kept :
   pub text : out ≡ spliced 0 (saidToPart k (take taken input)) out₀
   pub rest : takenOf k input (length out₀) ≡ taken + takenOf (keeps m line kept) (drop taken input) (length out₀ - at)
 
-pub turn-none : (m line input out : List ℕ) (begun : ℕ) → length line ≡ 256 → Turn (keeps m line begun) input out m line out 0 0 begun
+pub underway-none : (m line input out : List ℕ) (begun : ℕ) → length line ≡ 256 → Underway (keeps m line begun) input out m line out 0 0 begun
 unfolding afterPart saidToPart
-turn-none m line input out begun h =
+underway-none m line input out begun h =
     let room : length out ≡ length out - 0 = omega arith in
     record {
       bytes = refl;
@@ -155,15 +155,15 @@ module _ (k : Kept) (input : List ℕ) (n : ℕ) (more : n < length input) where
       ap (saidToPart k) one-byte ∙ said-append k (take n input) (byte ∷ [])
       ∙ ap (λ (l : List ℕ). saidToPart k (take n input) ++ l) (append-nil (saidTo (afterPart k (take n input)) byte))
 
-  pub turn-more :
+  pub underway-more :
       (out₀ m line out m′ line′ out′ : List ℕ) (at kept : ℕ) (r : Stepped)
-      → Turn k input out₀ m line out n at kept
+      → Underway k input out₀ m line out n at kept
       → 33 ≤ length out - at
       → Took r (keeps m line kept) (getD input n 0) at m′ line′ out out′
       → length m′ ≡ length m → length line′ ≡ length line → length out′ ≡ length out
-      → Turn k input out₀ m′ line′ out′ (n + 1) (r .at) (r .begun)
+      → Underway k input out₀ m′ line′ out′ (n + 1) (r .at) (r .begun)
   unfolding byte
-  turn-more out₀ m line out m′ line′ out′ at kept r i room t bytes full output =
+  underway-more out₀ m line out m′ line′ out′ at kept r i room t bytes full output =
       let here : Kept = keeps m line kept in
       let said : List ℕ = saidTo here byte in
       let fits = spliced-fits at said out (omega (arith, i .fits, i .output)) out′ output (t .output) in
@@ -194,7 +194,7 @@ module _ (k : Kept) (input : List ℕ) (n : ℕ) (more : n < length input) where
 
 -- the turns end where nothing more is taken
 pub fed-is :
-    {k : Kept} {input out₀ m line out : List ℕ} {taken at kept : ℕ} → Turn k input out₀ m line out taken at kept
+    {k : Kept} {input out₀ m line out : List ℕ} {taken at kept : ℕ} → Underway k input out₀ m line out taken at kept
     → takenOf (keeps m line kept) (drop taken input) (length out₀ - at) ≡ 0
     → FedIs (record { taken = taken; written = at; begun = kept }) k input m line out₀ out
 fed-is i e = record { taken = omega (arith, i .rest); kept = i .stands; written = i .ends; output = i .text }
@@ -234,7 +234,7 @@ module _ (k : Kept) where
 
   pub at-end-few : length (atEnd k .output) ≤ 33
   unfolding atEnd
-  at-end-few = choose-cases (λ (s : Response). length (s .output) ≤ 33) _ _ _ (λ _. omega arith) (λ _. end-few k)
+  at-end-few = choose-cases (λ (s : Response). length (s .output) ≤ 33) _ _ _ (λ _. omega arith) (λ _. answer-few k)
 
   pub end-some : (k .begun ≡ 0 → ⊥) → {end : ℕ} {bs before out : List ℕ} → Writes (endLine k) 0 end bs before out
       → Writes (atEnd k) 0 end bs before out

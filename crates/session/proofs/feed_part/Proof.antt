@@ -5,13 +5,13 @@ use denote.Ref.{now}
 use lib.ListN.{length}
 use borrow.Author.Needs.{needs}
 use Rattle.session.specs.Kept.{Kept, keeps}
-use Rattle.session.proofs.Feeding.{Turn, turn-none, turn-more, fed-is, taken-none, taken-full}
+use Rattle.session.proofs.Feeding.{Underway, underway-none, underway-more, fed-is, taken-none, taken-full}
 use Rattle.session.proofs.feed_part.Statement.{statement}
 use Rattle.session.proofs.feed_part.Tie as tie
 
 abbrev Inv-loop : tie.InvT-loop
 Inv-loop m₀ line₀ begun input out₀ taken₀ at₀ kept₀ m line out taken at kept =
-    Turn (keeps m₀ line₀ begun) input out₀ m line out taken at kept
+    Underway (keeps m₀ line₀ begun) input out₀ m line out taken at kept
 
 abbrev μ-loop : tie.MeasureT-loop
 μ-loop m₀ line₀ begun input out₀ taken₀ at₀ kept₀ m line out taken at kept = length input - taken
@@ -19,7 +19,7 @@ abbrev μ-loop : tie.MeasureT-loop
 loop-holds : tie.Need-loop-holds Inv-loop μ-loop
 loop-holds c =
     let start = c .before .before .before .before in
-    turn-none (now (start .args .m)) (now (start .args .line)) (now (start .args .input)) (now (start .args .out)) (start .args .begun) (start .pre)
+    underway-none (now (start .args .m)) (now (start .args .line)) (now (start .args .input)) (now (start .args .out)) (start .args .begun) (start .pre)
 
 sub-if1 : tie.Need-sub-if1 Inv-loop μ-loop
 sub-if1 c = search needs
@@ -57,7 +57,7 @@ loop-again c =
     let at-loop = c .before .before .before .before .before .before .before .before .before .before .before .before .before .loop in
     let kept : Kept = keeps (now (start .args .m)) (now (start .args .line)) (start .args .begun) in
     let step = c .before .before .before .before .before .before .take-byte in
-    turn-more kept (now (start .args .input)) (at-loop .taken)
+    underway-more kept (now (start .args .input)) (at-loop .taken)
     (c .before .before .before .before .before .before .before .before .before .before .before .before .loop-test .taken)
     (now (start .args .out)) _ _ _ _ _ _ (at-loop .at) (at-loop .kept) (step .result) (at-loop .inv) (omega arith) (step .ensures)
     (step .kept .0) (step .kept .1 .0) (step .kept .1 .1 .1 .1 .0)
