@@ -2,8 +2,8 @@
  * mastclover.h - a semaphore manager with the rules of RTEMS Classic, for one processor.
  *
  * The manager keeps tasks and semaphores in memory that the caller lends; it has no state of its
- * own, allocates nothing and calls only memcpy, memmove and memset. It does not switch tasks either:
- * every call says in `next` which task should run now, and the firmware switches to it.
+ * own, allocates nothing and calls only memcpy, memmove and memset. It does not switch tasks
+ * either: every call says in `next` which task should run now, and the firmware switches to it.
  *
  *     static uint8_t tables[MAST_TABLES_LENGTH];               (all zeros: not started yet)
  *     static const uint32_t priorities[] = { 10, 20 };         (task 1 and task 2)
@@ -13,8 +13,8 @@
  *     mast_id bus = answer.value;
  *     answer = mast_obtain(tables, sizeof tables, 2, bus, MAST_WAIT, MAST_NO_TIMEOUT);
  *
- * Link with libmastclover.a: `make lib` builds it for x86-64 Linux, and `make lib TARGET=cortex-m4` (or
- * another line of tools/targets/table.txt) for a board. docs/TARGETS.md has what code and stack it takes.
+ * Link with libmastclover.a: `make lib` builds it for x86-64 Linux, `make lib TARGET=cortex-m4` (or
+ * another line of tools/targets/table.txt) for a board; docs/TARGETS.md has the code and stack.
  *
  * Tasks are numbered 1 to N in the order of their priorities at start, N at most 32. Priority 1 is
  * the most urgent, 255 the least. A task is ready, or waits on one semaphore.
@@ -47,8 +47,8 @@
  *                         first to be served first)
  * What lies beyond N, S or a queue's length is 0, and so is a free slot but for its generation.
  * Every call tests the whole of the tables first: MAST_INTERNAL_ERROR says that the memory has
- * another length or that its numbers contradict each other, so something else wrote to it. The call
- * has then changed nothing.
+ * another length, or that a number is out of its limits or contradicts another, so something else
+ * wrote to it. The call has then changed nothing.
  */
 #ifndef MASTCLOVER_H
 #define MASTCLOVER_H
@@ -70,7 +70,7 @@ extern "C" {
 #define MAST_MAXIMUM_PRIORITY 255
 
 /* Statuses, with the names and numbers of RTEMS (RTEMS_SUCCESSFUL and so on). */
-#define MAST_SUCCESSFUL 0             /* done; a task's answer: it waited and has the semaphore */
+#define MAST_SUCCESSFUL 0             /* done; a task's answer: it got it, or never waited */
 #define MAST_INVALID_NAME 3           /* name 0, or no live semaphore has the name */
 #define MAST_INVALID_ID 4             /* no live semaphore has the identifier; no such task */
 #define MAST_TOO_MANY 5               /* no slot is left for another semaphore */
@@ -87,7 +87,7 @@ extern "C" {
 #define MAST_INTERNAL_ERROR 25        /* the tables are damaged or have the wrong length */
 #define MAST_WAITING 100              /* not of RTEMS: the caller now waits, or still does */
 
-/* Attributes of mast_create: one order and one class, added. Any other bit is MAST_NOT_DEFINED. */
+/* Attributes of mast_create: one order and one class, added. Anything else is MAST_NOT_DEFINED. */
 #define MAST_DEFAULT_ATTRIBUTES 0       /* FIFO, counting */
 #define MAST_FIFO 0                     /* waiters are served by arrival */
 #define MAST_PRIORITY 4                 /* waiters are served by priority, equals by arrival */
@@ -145,10 +145,10 @@ mast_answer mast_start(uint8_t *tables, size_t length, uint32_t slots, const uin
                        size_t count);
 
 /*
- * Makes a semaphore in the lowest free slot; its identifier is the value. Several may have the same
- * name. `count` is how often it can be obtained at first. A binary semaphore made with count 0 is
- * owned by the caller, once. Not from an interrupt.
- *
+ * Makes a semaphore in the lowest free slot whose generation is below 65535, the only ones that are
+ * used again; its identifier is the value. Several may have the same name. `count` is how often it
+ * can be obtained at first. A binary semaphore made with count 0 is owned by the caller, once. Not
+ * from an interrupt.
  *   MAST_INTERNAL_ERROR    the tables are damaged or have the wrong length
  *   MAST_CALLED_FROM_ISR   caller 0
  *   MAST_INVALID_ID        no such caller
@@ -198,7 +198,7 @@ mast_answer mast_delete(uint8_t *tables, size_t length, uint32_t caller, mast_id
  *   MAST_INVALID_ID        no such caller
  *   MAST_INCORRECT_STATE   the caller is waiting
  *   MAST_INVALID_ID        no live semaphore has the identifier
- *   MAST_UNSATISFIED       not to be had and MAST_NO_WAIT, or nested 4294967295 times already
+ *   MAST_UNSATISFIED       not to be had and MAST_NO_WAIT, or the caller owns it at nest 4294967295
  *   MAST_SUCCESSFUL        the caller has it
  *   MAST_WAITING           the caller waits; mast_task will say how that ends
  */
@@ -221,8 +221,8 @@ mast_answer mast_obtain(uint8_t *tables, size_t length, uint32_t caller, mast_id
 mast_answer mast_release(uint8_t *tables, size_t length, uint32_t caller, mast_id id);
 
 /*
- * Wakes all waiters of a semaphore with answer MAST_UNSATISFIED. Its count and its owner stay. Also
- * from an interrupt, as caller 0.
+ * Wakes all waiters of a semaphore with answer MAST_UNSATISFIED. Its count, owner and nest stay.
+ * Also from an interrupt, as caller 0.
  *
  *   MAST_INTERNAL_ERROR    the tables are damaged or have the wrong length
  *   MAST_INVALID_ID        no such caller

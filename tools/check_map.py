@@ -1,4 +1,4 @@
-"""Every `path:name` in docs/MAP.md is a file of the repository that declares that name."""
+"""Every name that docs/MAP.md cites, as `path`: `name` `name`, is declared by that file of the repository."""
 import pathlib
 import re
 import sys
@@ -31,7 +31,8 @@ def missing(path, name):
 
 
 text = (top / "docs/MAP.md").read_text()
-entries = re.findall(r"`([\w./-]+):([^`\s]+)`", text)
+cited = re.findall(r"`([\w./-]+)`:((?:\s`[^`\s]+`)+)", text)
+entries = [(path, name) for path, names in cited for name in re.findall(r"`([^`]+)`", names)]
 found = [m for m in (missing(*e) for e in entries) if m]
 print("\n".join(found) if found else f"{len(entries)} names")
 sys.exit(1 if found or not entries else 0)

@@ -49,7 +49,8 @@ below-more : (k n : ℕ) → k < n + 1 → (k < n) ⊎ (k ≡ n)
 below-more k n h = elim (ℕ-discrete k n) [ yes e ↦ inr e | no d ↦ inl (omega arith) ]
 
 -- four bytes read low byte first make the word the other way round
-swapped-bytes : (a b c d : ℕ) → a < 256 → b < 256 → c < 256 → d < 256 → swapped (a + b * 256 + c * 65536 + d * 16777216) ≡ a * 16777216 + b * 65536 + c * 256 + d
+swapped-bytes : (a b c d : ℕ) → a < 256 → b < 256 → c < 256 → d < 256
+    → swapped (a + b * 256 + c * 65536 + d * 16777216) ≡ a * 16777216 + b * 65536 + c * 256 + d
 swapped-bytes a b c d ha hb hc hd =
     let w : ℕ = a + b * 256 + c * 65536 + d * 16777216 in
     let first : w % 256 ≡ a = omega arith in
@@ -69,7 +70,9 @@ IsByte bs at b = (b ≡ getD bs at 0) × (b < 256)
 pub swapped-read : (bs : List ℕ) (i a b c d : ℕ) → IsByte bs (4 * i) a → IsByte bs (4 * i + 1) b → IsByte bs (4 * i + 2) c → IsByte bs (4 * i + 3) d
     → swapped (a + b * 256 + c * 65536 + d * 16777216) ≡ wordAt bs i
 unfolding wordAt
-swapped-read bs i a b c d ha hb hc hd = swapped-bytes a b c d (ha .1) (hb .1) (hc .1) (hd .1) ∙ (let e : a * 16777216 + b * 65536 + c * 256 + d ≡ wordAt bs i = omega arith in e)
+swapped-read bs i a b c d ha hb hc hd =
+    let e : a * 16777216 + b * 65536 + c * 256 + d ≡ wordAt bs i = omega arith in
+    swapped-bytes a b c d (ha .1) (hb .1) (hc .1) (hd .1) ∙ e
 
 small : (x : ℕ) → x < 256 → x % 256 ≡ 0 → x ≡ 0
 small x h e = omega arith
@@ -89,7 +92,8 @@ pub blank-none : (bs : List ℕ) (from : ℕ) → Blank bs from from 0
 blank-none bs from = sym (blank-of bs from from (λ k l h. absurd (omega arith)))
 
 -- one word more, whose bytes were read the other way round
-pub blank-more : (bs : List ℕ) (from k seen w r : ℕ) → from ≤ k → Blank bs from k seen → swapped w ≡ wordAt bs k → seen ≤ r → w ≤ r → r ≤ seen + w → Blank bs from (k + 1) r
+pub blank-more : (bs : List ℕ) (from k seen w r : ℕ) → from ≤ k → Blank bs from k seen → swapped w ≡ wordAt bs k
+    → seen ≤ r → w ≤ r → r ≤ seen + w → Blank bs from (k + 1) r
 blank-more bs from k seen w r low e read hs hw h = same-test _ _ there back
   where
     there : eqb r 0 ≡ true → blank bs from (k + 1) ≡ true

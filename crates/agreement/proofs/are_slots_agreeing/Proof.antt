@@ -24,7 +24,8 @@ abbrev bytes : tie.In-loop Inv-loop μ-loop → List ℕ
 bytes c = c .before .before .before .before .args .m .now
 
 -- what the slot's test tells
-passes : (c : tie.After-is-slot-agreeing Inv-loop μ-loop) → c .is-slot-agreeing .result ≡ slotPasses (bytes (c .before .before)) (c .before .before .before .loop .i)
+passes : (c : tie.After-is-slot-agreeing Inv-loop μ-loop)
+    → c .is-slot-agreeing .result ≡ slotPasses (bytes (c .before .before)) (c .before .before .before .loop .i)
 passes c = c .is-slot-agreeing .ensures .answer ∙ slot-passes (bytes (c .before .before)) _ _ (c .before .before .before .loop .inv .2)
 
 slot-count-requires : tie.Need-slot-count-requires Inv-loop μ-loop

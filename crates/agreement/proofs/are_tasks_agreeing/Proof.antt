@@ -26,7 +26,8 @@ start c = c .before .before .before .before
 
 -- what the task's test tells
 passes : (c : tie.After-is-task-agreeing Inv-loop μ-loop)
-    → c .is-task-agreeing .result ≡ taskPasses (start (c .before .before .before) .args .m .now) (start (c .before .before .before) .args .seen .now) (c .before .before .before .before .loop .i)
+    → c .is-task-agreeing .result
+    ≡ taskPasses (start (c .before .before .before) .args .m .now) (start (c .before .before .before) .args .seen .now) (c .before .before .before .before .loop .i)
 passes c =
     let o = start (c .before .before .before) .args in
     let i = c .before .before .before .before .loop .i in

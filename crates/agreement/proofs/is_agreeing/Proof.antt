@@ -21,7 +21,8 @@ laid : (c : tie.Else1) → isLaid (c .before .before .before .args .m .now) ≡ 
 laid c = sym (c .before .is-layout .ensures) ∙ not-false _ (c .if1 .left)
 
 counts : (c : tie.After-do-counts-fit)
-    → c .do-counts-fit .result ≡ countsFit (wordAt (c .before .before .before .before .before .before .args .m .now) 0) (wordAt (c .before .before .before .before .before .before .args .m .now) 1)
+    → c .do-counts-fit .result
+    ≡ countsFit (wordAt (c .before .before .before .before .before .before .args .m .now) 0) (wordAt (c .before .before .before .before .before .before .args .m .now) 1)
 counts c = c .do-counts-fit .ensures ∙ ap₂ countsFit (c .before .before .task-count .ensures) (c .before .slot-count .ensures)
 
 is-layout-requires : tie.Need-is-layout-requires
@@ -64,7 +65,8 @@ returns-3 c =
 are-tasks-agreeing-requires : tie.Need-are-tasks-agreeing-requires
 are-tasks-agreeing-requires c κs =
     let last = c .before in
-    (laid-bounded _ (laid (last .before .before .before .before .before .before .before)), last .before .are-slots-agreeing .ensures .marks (not-false _ (last .if3 .left)))
+    let bounded = laid-bounded _ (laid (last .before .before .before .before .before .before .before)) in
+    (bounded, last .before .are-slots-agreeing .ensures .marks (not-false _ (last .if3 .left)))
 
 returns-4 : tie.Need-returns-4
 returns-4 c =

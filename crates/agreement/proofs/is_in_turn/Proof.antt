@@ -18,12 +18,14 @@ is-by-priority-requires c κs = search needs
 
 returns-3 : tie.Need-returns-3
 returns-3 c =
-    let ordered : byPriority (c .before .before .before .before .before .before .before .args .attributes) ≡ true = sym (c .before .before .is-by-priority .ensures) ∙ c .before .if3 .taken in
+    let ordered : byPriority (c .before .before .before .before .before .before .before .args .attributes) ≡ true =
+    sym (c .before .before .is-by-priority .ensures) ∙ c .before .if3 .taken in
     search cases
 
 returns-4 : tie.Need-returns-4
 returns-4 c =
-    let free : byPriority (c .before .before .before .before .before .before .args .attributes) ≡ false = sym (c .before .is-by-priority .ensures) ∙ c .if3 .left in
+    let free : byPriority (c .before .before .before .before .before .before .args .attributes) ≡ false =
+    sym (c .before .is-by-priority .ensures) ∙ c .if3 .left in
     search cases
 
 pub is-in-turn-spec : {M : Type 1} → statement M

@@ -38,7 +38,8 @@ abbrev slot : tie.Start Inv-loop μ-loop → Slot
 slot c = slotWith (c .args .s) (queueIn (c .args .m .now) (c .args .i))
 
 -- the head's count of waiters is the queue's length
-waiters : (c : tie.Start Inv-loop μ-loop) → (recordAt (c .args .m .now) (c .args .i) .waiters ≡ c .args .s .waiters) × (length (slot c .queue) ≡ c .args .s .waiters)
+waiters : (c : tie.Start Inv-loop μ-loop)
+    → (recordAt (c .args .m .now) (c .args .i) .waiters ≡ c .args .s .waiters) × (length (slot c .queue) ≡ c .args .s .waiters)
 waiters c =
     let same : recordAt (c .args .m .now) (c .args .i) .waiters ≡ c .args .s .waiters = sym (ap (λ (s : Head). s .waiters) (c .pre .2)) in
     (same, queue-length (c .args .m .now) (c .pre .0) (c .args .i) (c .pre .1) ∙ same)
@@ -61,11 +62,13 @@ place c =
     }
 
 apartness : (c : tie.After-is-apart Inv-loop μ-loop)
-    → c .is-apart .result ≡ isApart (length (model (start (c .before .before)) .tasks)) (start (c .before .before) .args .s .owner) (c .before .queue-entry .result)
+    → c .is-apart .result
+    ≡ isApart (length (model (start (c .before .before)) .tasks)) (start (c .before .before) .args .s .owner) (c .before .queue-entry .result)
 apartness c =
     let o = start (c .before .before) .args in
     c .is-apart .ensures
-    ∙ ap (λ (N : ℕ). isApart N (o .s .owner) (c .before .queue-entry .result)) (c .before .before .before .before .before .task-count .ensures ∙ sym (length-tasks (o .m .now)))
+    ∙ ap (λ (N : ℕ). isApart N (o .s .owner) (c .before .queue-entry .result))
+    (c .before .before .before .before .before .task-count .ensures ∙ sym (length-tasks (o .m .now)))
 
 number : (c : tie.Else1 Inv-loop μ-loop)
     → (1 ≤ c .before .before .queue-entry .result) × (c .before .before .queue-entry .result ≤ wordAt (start (c .before .before .before) .args .m .now) 0)
@@ -88,13 +91,15 @@ waiter c =
     }
 
 turn : (c : tie.Else2 Inv-loop μ-loop)
-    → isInTurn (start (c .before .before .before .before .before .before) .args .id) (byPriority (start (c .before .before .before .before .before .before) .args .s .attributes))
+    → isInTurn (start (c .before .before .before .before .before .before) .args .id)
+    (byPriority (start (c .before .before .before .before .before .before) .args .s .attributes))
     (c .before .before .before .before .before .before .before .loop .before) (c .before .before .load-task .result)
     ≡ true
 turn c = sym (c .before .is-in-turn .ensures) ∙ not-false _ (c .if2 .left)
 
 -- a task's mark stands at one less than its number
-mark-at : (c : tie.Else2 Inv-loop μ-loop) → c .before .before .before .before .before .queue-entry .result - 1 ≡ pred (c .before .before .before .before .before .queue-entry .result)
+mark-at : (c : tie.Else2 Inv-loop μ-loop)
+    → c .before .before .before .before .before .queue-entry .result - 1 ≡ pred (c .before .before .before .before .before .queue-entry .result)
 mark-at c = omega arith
 
 -- ---- the needs
@@ -111,8 +116,11 @@ loop-holds c = passed-none _ _ _ _
 queue-entry-requires : tie.Need-queue-entry-requires Inv-loop μ-loop
 queue-entry-requires c κs =
     let first = start c in
-    let bounded = first .pre .0 in
-    (bounded .sized .long, omega (arith, bounded .sized .slots, first .pre .1), omega (arith, waiters first .0, bounded .queues (first .args .i) (first .pre .1)))
+    let bounded = first .pre .0 in (
+      bounded .sized .long,
+      omega (arith, bounded .sized .slots, first .pre .1),
+      omega (arith, waiters first .0, bounded .queues (first .args .i) (first .pre .1)),
+    )
 
 is-apart-requires : tie.Need-is-apart-requires Inv-loop μ-loop
 is-apart-requires c κs = search needs
@@ -168,7 +176,8 @@ loop-again c =
     let loop = at .before .before .before .before .before .before .before .loop in
     let first = start (at .before .before .before .before .before .before) in
     let fresh = subst (λ (n : ℕ). getD (loop .seen) n false ≡ false) (mark-at at) (c .if3 .left) in
-    subst (λ (n : ℕ). Passed (model first) (first .args .seen .now) (first .args .id) (slot first) (loop .k + 1) (set (loop .seen) n true) (at .before .before .load-task .result .priority))
+    let v = at .before .before .load-task .result in
+    subst (λ (n : ℕ). Passed (model first) (first .args .seen .now) (first .args .id) (slot first) (loop .k + 1) (set (loop .seen) n true) (v .priority))
     (sym (mark-at at)) (passed-more (waiter (at .before .before)) (turn at) fresh)
 
 returns-4 : tie.Need-returns-4 Inv-loop μ-loop

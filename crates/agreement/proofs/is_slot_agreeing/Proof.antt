@@ -43,7 +43,8 @@ told c r after =
 -- the head's test with the model's N
 headed : (c : tie.After-is-head-agreeing)
     → c .is-head-agreeing .result
-    ≡ headAgrees (length (model (c .before .before .before .before .before .before .before .before) .tasks)) (slot (c .before .before .before .before .before .before .before .before))
+    ≡ headAgrees (length (model (c .before .before .before .before .before .before .before .before) .tasks))
+    (slot (c .before .before .before .before .before .before .before .before))
 headed c =
     let at = c .before .before .before .before .before .before .before .before in
     c .is-head-agreeing .ensures (slot at .queue) (waiters at)
@@ -104,7 +105,8 @@ returns-5 c =
     let o = start at .args in
     told at _ _
     (live _ _ _ _ (within .if1 .left) (one .if3 .left) _ _ _ (sym (headed (head .before)) ∙ not-false _ (head .if4 .left)) (omega arith)
-    (told-queue (o .m .now) (start at .pre .0) (o .i) (start at .pre .1) (at .load-head .result) (at .load-head .ensures) (o .seen .now) _ _ _ (c .is-queue-agreeing .ensures)))
+    (told-queue (o .m .now) (start at .pre .0) (o .i) (start at .pre .1) (at .load-head .result) (at .load-head .ensures) (o .seen .now) _ _ _
+    (c .is-queue-agreeing .ensures)))
 
 pub is-slot-agreeing-spec : {M : Type 1} → statement M
 is-slot-agreeing-spec =

@@ -18,12 +18,14 @@ is-simple-requires c κs = search needs
 
 returns-3 : tie.Need-returns-3
 returns-3 c queue =
-    let simple : isSimple (c .before .before .before .before .before .before .before .args .s .attributes) ≡ true = sym (c .before .before .is-simple .ensures) ∙ c .before .if3 .taken in
+    let simple : isSimple (c .before .before .before .before .before .before .before .args .s .attributes) ≡ true =
+    sym (c .before .before .is-simple .ensures) ∙ c .before .if3 .taken in
     search cases
 
 returns-4 : tie.Need-returns-4
 returns-4 c queue =
-    let simple : isSimple (c .before .before .before .before .before .before .args .s .attributes) ≡ false = sym (c .before .is-simple .ensures) ∙ c .if3 .left in
+    let simple : isSimple (c .before .before .before .before .before .before .args .s .attributes) ≡ false =
+    sym (c .before .is-simple .ensures) ∙ c .if3 .left in
     search cases
 
 pub is-unowned-spec : {M : Type 1} → statement M

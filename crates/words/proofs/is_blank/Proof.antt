@@ -30,8 +30,11 @@ loop-less c = search needs
 loop-again : tie.Need-loop-again Inv-loop μ-loop
 loop-again c =
     let turn = c .before .before .before .loop in
-    let joined = c .bits-of-both .ensures in
-    (omega arith, omega arith, blank-more _ _ (turn .k) (turn .seen) _ _ (turn .inv .0) (turn .inv .2) (c .before .swapped-word .ensures) (joined .0) (joined .1) (joined .2))
+    let joined = c .bits-of-both .ensures in (
+      omega arith,
+      omega arith,
+      blank-more _ _ (turn .k) (turn .seen) _ _ (turn .inv .0) (turn .inv .2) (c .before .swapped-word .ensures) (joined .0) (joined .1) (joined .2),
+    )
 
 returns : tie.Need-returns Inv-loop μ-loop
 returns c =

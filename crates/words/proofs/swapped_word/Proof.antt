@@ -62,7 +62,8 @@ returns : tie.Need-returns
 returns c =
     let first = c .before .before .before .before .before .before in
     let o = first .before .before .before .args in
-    swapped-read (o .m .now) (o .i) _ _ _ _ (first .wide .ensures) (c .before .before .before .before .wide2 .ensures) (c .before .before .wide3 .ensures) (c .wide4 .ensures)
+    swapped-read (o .m .now) (o .i) _ _ _ _
+    (first .wide .ensures) (c .before .before .before .before .wide2 .ensures) (c .before .before .wide3 .ensures) (c .wide4 .ensures)
 
 pub swapped-word-spec : {M : Type 1} → statement M
 swapped-word-spec =

@@ -1,0 +1,183 @@
+-- What is promised, in the order of the three demands: what a reviewer reads after the definitions. Each statement is proved elsewhere, by the
+-- theorem that stands behind its `=`. `Bytes bs` says that every number of the lent memory is a byte; `callFits` and `callsFit` that the numbers
+-- of calls are those of 32 bits; `replyTo` is what an entry point answers and leaves on any bytes, and what each C function promises.
+use mathlib.Core.Path.{_≡_}
+use mathlib.Core.Bool.{true, false}
+use mathlib.Core.List.{List, [], _∷_, _++_, map}
+use mathlib.Core.Logic.{_↔_, _⊎_, _≢_}
+use Prim.Native.Nat.{ℕ, _%_, _/_, _≤_, _<_}
+use lib.ListN.{length, take}
+use Rattle.words.proofs.WordsInBytes.{Bytes}
+use Rattle.rules.specs.declared.Call.{Call}
+use Rattle.rules.specs.declared.Call.the-variants.{Create, Delete, Release}
+use Rattle.rules.specs.Numbers.{maxGeneration}
+use Rattle.rules.specs.Machine.{Tables, unstarted, slotOf, names, next}
+use Rattle.rules.specs.Agreement.{Agrees}
+use Rattle.rules.specs.Calls.{step}
+use Rattle.rules.specs.Runs.{Request, after, answers}
+use Rattle.rules.specs.Promises.{Refusal, IsRefusal, listed, isIn, SomeGives, NextIs, NeverAgain}
+use Rattle.rules.specs.Fits.{callFits, callsFit}
+use Rattle.rules.proofs.Refusals.{refusal-keeps}
+use Rattle.rules.proofs.Statuses.{listed-given}
+use Rattle.rules.proofs.Next.{next-is}
+use Rattle.rules.proofs.Invariants.Kept.{kept}
+use Rattle.rules.proofs.History.Identifiers.{created-once}
+use Rattle.rules.proofs.Asking.{ask, says, requests, expected, answersOf, lastOf}
+use Rattle.rules.proofs.Vectors as vectors
+use Rattle.tables.specs.Layout.{laid, modelOf}
+use Rattle.tables.specs.Sizes.{Holds}
+use Rattle.tables.proofs.LayoutRead as layouts
+use Rattle.agreement.specs.Bytes.{agreesBytes}
+use Rattle.calls.specs.Agreeing.{Agreeing}
+use Rattle.manager.specs.Entry.{reply, noNext, replyTo}
+use Rattle.manager.specs.Runs.{replies}
+use Rattle.manager.proofs.Runs as entries
+use Rattle.session.specs.Session.{session}
+use Rattle.session.specs.Kept.{Kept, atEnd}
+use Rattle.session.specs.Feeding.{Writes}
+use Rattle.session.proofs.Replay.{Feeds, code-session}
+use Rattle.session.proofs.Worked as worked
+use Rattle.sections.specs.Scripts.{Script, Grant, scriptAt, sectionAt, plain}
+use Rattle.sections.specs.Run.{Event, State, placeAt, eventOf, runFrom, openOf}
+use Rattle.sections.specs.Refusals.{Input, refusal, atFirst, run, inputFits}
+use Rattle.sections.specs.History.{answersIn, history, grantsShown}
+use Rattle.sections.proofs.Demand3 as sections
+
+-- ---- demand 1: every call is defined; a refusal changes nothing; tables that contradict themselves get 25 and no next task
+
+-- (that every call ends and is safe, whatever it is handed, is what the check of the code says: no entry point has a `requires`)
+
+-- 25 says exactly that the bytes do not agree
+pub twenty-five-exactly : (bs : List ℕ) (call : Call) (priorities : List ℕ)
+    → (replyTo bs call priorities .answer .status ≡ 25) ↔ (agreesBytes bs ≡ false)
+twenty-five-exactly = entries.internal-error-bytes
+
+-- such bytes get 25, value 0 and next task 0, whatever is called, and stay for good
+pub contradicting-bytes-stay : (bs : List ℕ) → agreesBytes bs ≡ false → (requests : List Request) → replies bs requests .bytes ≡ bs
+contradicting-bytes-stay = entries.disagreeing-stay
+
+pub contradicting-bytes-refused : (bs : List ℕ) → agreesBytes bs ≡ false → (requests : List Request)
+    → replies bs requests .answers ≡ map (λ r. noNext) requests
+contradicting-bytes-refused = entries.disagreeing-refused
+
+-- a refusal leaves every byte
+pub refusal-leaves-every-byte : (bs : List ℕ) (call : Call) (priorities : List ℕ) → Bytes bs
+    → IsRefusal (replyTo bs call priorities .answer .status) → replyTo bs call priorities .bytes ≡ bs
+refusal-leaves-every-byte = entries.refusal-leaves
+
+-- its value is 0, and its next task that of the tables, with 25 none
+pub refusal-answers : (t : Tables) (call : Call) (priorities : List ℕ)
+    → (step t call priorities .answer .status ≡ 0 → ⊥) → (step t call priorities .answer .status ≡ 100 → ⊥) → Refusal t (step t call priorities)
+refusal-answers = refusal-keeps
+
+-- a call answers no status but those of its list, and each of these on some tables
+pub statuses-listed : (bs : List ℕ) (call : Call) (priorities : List ℕ) → isIn (replyTo bs call priorities .answer .status) (listed call) ≡ true
+statuses-listed = entries.status-listed-bytes
+
+pub statuses-given : (call : Call) (status : ℕ) → isIn status (listed call) ≡ true → SomeGives call status
+statuses-given = listed-given
+
+-- ---- demand 2: status, tables and next task are those of the rules; a deleted identifier never comes back
+
+-- bytes pass the test exactly where they are the layout of tables that agree, and are then answered as their tables are
+pub agreeing-bytes-are-tables : (bs : List ℕ) → Bytes bs → (agreesBytes bs ≡ true) ↔ Agreeing bs
+agreeing-bytes-are-tables = entries.agreeing-tested
+
+pub agreeing-bytes-answer-by-the-rules : (bs : List ℕ) (call : Call) (priorities : List ℕ) → agreesBytes bs ≡ true
+    → replyTo bs call priorities ≡ reply (step (modelOf bs) call priorities)
+agreeing-bytes-answer-by-the-rules = entries.reply-is
+
+-- a layout reads back as its tables
+pub layout-reads-back : (t : Tables) → Holds t → modelOf (laid t) ≡ t
+layout-reads-back = layouts.modelOf-laid
+
+-- the next task is the most urgent of the ready ones, among equals the lowest, 0 if none is ready
+pub next-task : (t : Tables) → NextIs t (next t)
+next-task = next-is
+
+-- P1 to P14, and as a session's text
+pub cases-as-calls : answersOf (requests vectors.worked)
+    ++ lastOf (vectors.one 4294967295 0) (ask (Release 1 65537))
+    ∷ lastOf (vectors.one 1 32) (ask (Release 0 65537))
+    ∷ lastOf (vectors.one 1 16) (ask (Release 0 65537))
+    ∷ []
+    ≡ expected vectors.worked ++ says 13 0 1 ∷ says 13 0 1 ∷ says 23 0 1 ∷ []
+cases-as-calls = vectors.P1-P14
+
+pub cases-as-text : session worked.input ≡ worked.output
+cases-as-text = worked.P1-P11-as-text
+
+-- agreement is kept by every call and tick, and by every run of entry points over the bytes
+pub agreement-kept : (t : Tables) (call : Call) (priorities : List ℕ) → callFits call ≡ true → Agrees t → Agrees (step t call priorities .tables)
+agreement-kept = kept
+
+pub agreement-stays : (bs : List ℕ) → Bytes bs → agreesBytes bs ≡ true → (requests : List Request) → callsFit requests ≡ true
+    → agreesBytes (replies bs requests .bytes) ≡ true
+agreement-stays = entries.agreement-stays
+
+-- after a delete that was done, over any calls: no create or ident gives the identifier, and no call that takes it is served
+pub deleted-identifier-never-again : (bs : List ℕ) → Bytes bs → (caller id : ℕ) (priorities : List ℕ) → callFits (Delete caller id) ≡ true
+    → replyTo bs (Delete caller id) priorities .answer .status ≡ 0 → (requests : List Request) → callsFit requests ≡ true
+    → NeverAgain (λ call others. replyTo (replies (replyTo bs (Delete caller id) priorities .bytes) requests .bytes) call others .answer) id
+deleted-identifier-never-again = entries.deleted-never-again-bytes
+
+-- a slot freed at generation 65535 is never used again: so of every identifier of that slot
+pub last-generation-never-again : (bs : List ℕ) → Bytes bs → (caller id : ℕ) (priorities : List ℕ) → callFits (Delete caller id) ≡ true
+    → replyTo bs (Delete caller id) priorities .answer .status ≡ 0 → (requests : List Request) → callsFit requests ≡ true
+    → id / 65536 ≡ maxGeneration → (other : ℕ) → other % 65536 ≡ id % 65536
+    → NeverAgain (λ call others. replyTo (replies (replyTo bs (Delete caller id) priorities .bytes) requests .bytes) call others .answer) other
+last-generation-never-again = entries.retired-never-again-bytes
+
+-- no two creates of a run give the same identifier
+pub created-once-only : (t : Tables) (caller name count attributes : ℕ) (priorities : List ℕ) (requests : List Request)
+    (caller′ name′ count′ attributes′ : ℕ) (priorities′ : List ℕ)
+    → let o = step t (Create caller name count attributes) priorities in o .answer .status ≡ 0
+    → let a = step (after (o .tables) requests) (Create caller′ name′ count′ attributes′) priorities′ .answer in
+    a .status ≡ 0 → a .value ≡ o .answer .value → ⊥
+created-once-only = created-once
+
+-- what the session's code writes, feed after feed from a machine that is not started, is the session of what it took, however the input is cut
+pub session-as-fed : {k : Kept} {text written : List ℕ} → Feeds k text written
+    → (r : ℕ) (bs before out : List ℕ) → Writes (atEnd k) 0 r bs before out → written ++ take r out ≡ session text
+session-as-fed = code-session
+
+-- ---- demand 3: guarded sections
+
+-- with no section open after the list of events, every cell and local handed back equals the plain run's
+pub sections-are-serial : (t : Tables) (w : Input) (events : List Event) → inputFits w events ≡ true
+    → openOf (w .scripts) (run t w events .state) ≡ []
+    → run t w events .state .memory ≡ plain (w .scripts) (run t w events .state .grants) (w .memory)
+sections-are-serial = sections.demand-3
+
+-- the grants reported are exactly those that the calls' answers make, in order, sections open or not; one event grants at most one
+pub grants-are-those-shown : (t : Tables) (w : Input) (events : List Event) → inputFits w events ≡ true → refusal t w events ≡ 0
+    → run t w events .state .grants ≡ grantsShown (w .scripts) (λ q. 0) (answersIn t) (history (w .scripts) (atFirst t w) events)
+grants-are-those-shown = sections.grants-shown
+
+pub one-grant-an-event : (t : Tables) (w : Input) (a : List Event) (e : Event) (b : List Event) → inputFits w (a ++ e ∷ b) ≡ true
+    → refusal t w (a ++ e ∷ b) ≡ 0
+    → let before = runFrom (w .scripts) (atFirst t w) a in
+    let later = eventOf (w .scripts) before e in
+    (later .grants ≡ before .grants) ⊎ ((g : Grant) × (later .grants ≡ before .grants ++ g ∷ []))
+one-grant-an-event = sections.one-grant
+
+-- at every point of a run: at most one section is open for an identifier, and its task owns the semaphore with nest 1
+pub open-section-owns : (t : Tables) (w : Input) (a b : List Event) → inputFits w (a ++ b) ≡ true → refusal t w (a ++ b) ≡ 0
+    → let s = runFrom (w .scripts) (atFirst t w) a in (i : ℕ) → i < length (w .scripts) → 1 ≤ placeAt s i .position
+    → let id = sectionAt (scriptAt (w .scripts) i) (placeAt s i .section) .id in
+    (names (s .tables) id ≡ true) × (slotOf (s .tables) (id % 65536) .owner ≡ scriptAt (w .scripts) i .task)
+    × (slotOf (s .tables) (id % 65536) .nest ≡ 1)
+open-section-owns = sections.open-owned
+
+pub open-sections-apart : (t : Tables) (w : Input) (a b : List Event) → inputFits w (a ++ b) ≡ true → refusal t w (a ++ b) ≡ 0
+    → let s = runFrom (w .scripts) (atFirst t w) a in (i j : ℕ) → i < length (w .scripts) → j < length (w .scripts)
+    → 1 ≤ placeAt s i .position → 1 ≤ placeAt s j .position
+    → sectionAt (scriptAt (w .scripts) i) (placeAt s i .section) .id ≡ sectionAt (scriptAt (w .scripts) j) (placeAt s j .section) .id → i ≡ j
+open-sections-apart = sections.open-alone
+
+-- a refused run changes nothing, and a run of events in two halves is the run of the whole
+pub refused-run-keeps : (t : Tables) (w : Input) (events : List Event) → refusal t w events ≢ 0 → run t w events .state ≡ atFirst t w
+refused-run-keeps = sections.refused-keeps
+
+pub run-in-halves : (scripts : List Script) (s : State) (a b : List Event) → runFrom scripts s (a ++ b) ≡ runFrom scripts (runFrom scripts s a) b
+run-in-halves = sections.run-halves
