@@ -27,7 +27,8 @@ emptied t n slot answer = wakeAll (putSlot t n slot) (slotOf t n .queue) answer
 
 pub emptied-laid : {t : Tables} → Agrees t → {id n : ℕ} {s : Semaphore} → Found t id n s → (slot : Slot) (answer : ℕ) {bs₁ bs₂ : List ℕ}
     → bs₁ ≡ laid (putSlot t n slot)
-    → ((t : Tables) → bs₁ ≡ laid t → ((k : ℕ) → k < s .waiters → getD (s .queue) k 0 ≤ length (t .tasks)) → bs₂ ≡ laid (wakeAll t (take (s .waiters) (s .queue)) answer))
+    → ((t : Tables) → bs₁ ≡ laid t → ((k : ℕ) → k < s .waiters → getD (s .queue) k 0 ≤ length (t .tasks))
+    → bs₂ ≡ laid (wakeAll t (take (s .waiters) (s .queue)) answer))
     → bs₂ ≡ laid (emptied t n slot answer)
 emptied-laid {t} a {n = n} f slot answer stored woken =
     woken (putSlot t n slot) stored (λ k h. waiter-tasks a f k h .1)

@@ -32,7 +32,6 @@ task-queues {bs} g =
       numbers =
           λ i h. record {
             low = λ k l. entry-tasks t (g .agrees) i k l .0;
-            high = λ k l. omega
-                (arith, entry-tasks t (g .agrees) i k l .1, tasks-few t (g .agrees));
+            high = λ k l. omega (arith, entry-tasks t (g .agrees) i k l .1, tasks-few t (g .agrees));
           };
     }

@@ -1,6 +1,5 @@
--- Identifiers never come back: one that a delete has ended is neither given nor served ever after, no create gives one twice, and a slot freed at
--- the last generation is
--- never used again.
+-- Identifiers never come back: one that a delete has ended is neither given nor served ever after, no create gives one twice,
+-- and a slot freed at the last generation is never used again.
 use mathlib.Core.Path.{_≡_, sym, ap, subst, _∙_}
 use mathlib.Core.Bool.{true, false}
 use mathlib.Core.List.{List}

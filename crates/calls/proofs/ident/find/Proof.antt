@@ -32,7 +32,8 @@ found c =
     hit-slot (sized (s .pre)) (named-hit (modelOf (s .args .m .now)) (s .args .name) _ (c .before .first-named .ensures) (c .if2 .left))
 
 generation : (c : tie.After-slot-generation)
-    → c .slot-generation .result ≡ slotOf (modelOf (c .before .before .before .before .before .args .m .now)) (c .before .before .first-named .result) .generation
+    → let s = c .before .before .before .before .before in
+    c .slot-generation .result ≡ slotOf (modelOf (s .args .m .now)) (c .before .before .first-named .result) .generation
 generation c =
     let f = found (c .before) in
     generation-read (c .before .before .before .before .before .args .m .now) (c .before .before .first-named .result) (c .slot-generation .result) (f .low)
@@ -56,8 +57,7 @@ add-t8 c =
       arith,
       generation c,
       generation-few _ (c .before .before .before .before .before .pre .agrees) (c .before .before .first-named .result),
-      found
-          (c .before) .most,
+      found (c .before) .most,
     )
 
 returns-3 : tie.Need-returns-3

@@ -30,16 +30,17 @@ who c =
     ready-task (start e .args .caller) (e .before .before .task-only .ensures) (e .enter .ensures) (c .before .before .before .before .if1 .left)
 
 taken : (c : tie.After-take)
-    → TakenIs (c .take .result) (taking (modelOf (start (entered c) .args .m .now)) (entered c .enter .result .slot) (start (entered c) .args .caller) (start (entered c) .args .wait))
+    → let e = entered c in
+    TakenIs (c .take .result) (taking (modelOf (start e .args .m .now)) (e .enter .result .slot) (start e .args .caller) (start e .args .wait))
 taken c =
     let e = entered c in
     taken-slot (start e .args .caller) (e .before .before .task-only .ensures) (e .enter .ensures) (c .before .before .before .before .if1 .left) _
     (c .before .place-of .ensures) (start e .args .wait) (c .take .ensures)
 
 -- the bytes with the slot as it was taken
-stored : (c : tie.After-put-slot) → let e =
-    entered (taking-of c) in c .put-slot .last .0 ≡ laid
-    (took (modelOf (start e .args .m .now)) (e .enter .result .slot) (start e .args .caller) (start e .args .wait))
+stored : (c : tie.After-put-slot)
+    → let e = entered (taking-of c) in
+    c .put-slot .last .0 ≡ laid (took (modelOf (start e .args .m .now)) (e .enter .result .slot) (start e .args .caller) (start e .args .wait))
 stored c =
     let k = taking-of c in
     let e = entered k in

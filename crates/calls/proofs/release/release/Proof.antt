@@ -27,7 +27,8 @@ giving c = c .before .before .before .before
 
 -- the bytes with the slot as it was given
 stored : (c : tie.After-put-slot)
-    → c .put-slot .last .0 ≡ laid (returned (modelOf (start (entered (giving c)) .args .m .now)) (entered (giving c) .enter .result .slot) (start (entered (giving c)) .args .caller))
+    → let e = entered (giving c) in
+    c .put-slot .last .0 ≡ laid (returned (modelOf (start e .args .m .now)) (e .enter .result .slot) (start e .args .caller))
 stored c =
     let g = giving c in
     let e = entered g in
@@ -99,8 +100,7 @@ wake-requires c κs =
     in (
       omega (arith, sized (start e .pre) .long, put .put-slot .kept),
       omega (arith, c .before .if3 .left),
-      omega
-          (arith, few, tasks-few _ (start e .pre .agrees)),
+      omega (arith, few, tasks-few _ (start e .pre .agrees)),
     )
 
 same-length-4 : tie.Need-same-length-4
