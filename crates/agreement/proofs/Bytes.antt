@@ -67,20 +67,6 @@ module _ (bs : List ℕ) where
 abbrev pub bytesTests : List ℕ → Bool
 bytesTests bs = isLaid bs and countsFit (wordAt bs 0) (wordAt bs 1) and slotsAgree (modelOf bs) and tasksAgree (modelOf bs)
 
--- bytes that are laid can be read
-pub laid-bounded : (bs : List ℕ) → isLaid bs ≡ true → Bounded bs
-unfolding isLaid isQueueLaid recordAt
-laid-bounded bs e =
-    let e₁ = and-both _ _ e in
-    let e₂ = and-both _ _ (e₁ .1) in
-    let e₃ = and-both _ _ (e₂ .1) in
-    let e₄ = and-both _ _ (e₃ .1) in
-    let queues = all-at _ _ (and-both _ _ (e₄ .1) .0) in
-    record {
-      sized = record { long = eqb-true _ _ (e₁ .0); tasks = leb-true _ _ (e₂ .0); slots = leb-true _ _ (e₃ .0) };
-      queues = λ i h. leb-true _ _ (and-both _ _ (queues i h) .0);
-    }
-
 record NarrowTask (v : Task) : Type 0 where
   awaited : v .awaited ≤ maxNumber
   ticks : v .ticks ≤ maxNumber

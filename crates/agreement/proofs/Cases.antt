@@ -10,7 +10,7 @@ use borrow.Author.Tests.{eq-eqb, lt-leb}
 use Rattle.laws.specs.Choose.{choose, _and_, _or_, when}
 use Rattle.laws.proofs.Choose.{if-yes, if-no, if-eq, if-ne}
 use Rattle.rules.specs.Numbers.{maxTasks, maxSlots, within}
-use Rattle.rules.specs.Agreement.{countsFit, isOwnedRight, isZeroWhereQueued, isClear}
+use Rattle.rules.specs.Agreement.{countsFit, isBinaryRight, isZeroWhereQueued, isClear}
 use Rattle.rules.proofs.Invariants.Lists.{occurs-none}
 use Rattle.tables.specs.declared.Head.{Head}
 use Rattle.tables.specs.Layout.{slotWith}
@@ -30,13 +30,13 @@ module _ (n s : ℕ) where
 
 module _ (N : ℕ) (s : Head) where
   -- at count 1 nobody owns it
-  pub owned-one : s .count ≡ 1 → (eqb (s .owner) 0 and eqb (s .nest) 0) ≡ isOwnedRight N (slotWith s [])
+  pub owned-one : s .count ≡ 1 → (eqb (s .owner) 0 and eqb (s .nest) 0) ≡ isBinaryRight N (slotWith s [])
   owned-one e =
       let some : s .count ≡ 0 → ⊥ = λ z. omega arith in
       sym (or-false _ _ (if-ne (s .count) 0 _ _ some) ∙ if-eq (s .count) 1 _ _ e)
 
   -- otherwise it is owned, at count 0
-  pub owned-zero : (s .count ≡ 1 → ⊥) → (eqb (s .count) 0 and within 1 N (s .owner) and leb 1 (s .nest)) ≡ isOwnedRight N (slotWith s [])
+  pub owned-zero : (s .count ≡ 1 → ⊥) → (eqb (s .count) 0 and within 1 N (s .owner) and leb 1 (s .nest)) ≡ isBinaryRight N (slotWith s [])
   owned-zero n =
       ap (λ (b : Bool). eqb (s .count) 0 and within 1 N (s .owner) and b) (sym (if-yes _ _ (eq-eqb _ _ (occurs-none (s .owner)))))
       ∙ sym (if-no _ _ (if-ne (s .count) 1 _ _ n))

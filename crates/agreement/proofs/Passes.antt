@@ -15,7 +15,7 @@ use Rattle.laws.proofs.All.{all-at, all-of}
 use Rattle.rules.specs.Numbers.{maxNumber, byPriority, isBinary}
 use Rattle.rules.specs.Machine.{Slot, Tables, taskOf, slotOf, waits, isLive, idOf, urgency}
 use Rattle.rules.specs.Semaphore.{requeued}
-use Rattle.rules.specs.Agreement.{Agrees, agrees, sizesFit, occurs, isWaiter, isQueuedOnce, isOwnedRight, isClear, isEnding, answerFits}
+use Rattle.rules.specs.Agreement.{Agrees, agrees, sizesFit, occurs, isWaiter, isQueuedOnce, isBinaryRight, isClear, isEnding, answerFits}
 use Rattle.rules.proofs.Invariants.Lists.{bit-yes, bit-most, occurs-none, occurs-at}
 use Rattle.rules.proofs.Invariants.Agreeing.{Sizes, TaskAgrees, LiveAgrees, SlotAgrees, ItemsAgree, sizes-within, agrees-true, true-agrees, agrees-items, items-agree}
 use Rattle.rules.proofs.Invariants.Facts.{nthTask, nthSlot, waitsOn, Unheld, Held, Facts, live-within}
@@ -44,7 +44,7 @@ either : (a b c : Bool) → (a ≡ true → b ≡ true) → (a ≡ false → c �
 either a b c = choose-cases (λ (r : Bool). r ≡ true) a b c
 
 -- a semaphore owned right, with another queue that its owner is not in
-owned-with : (N : ℕ) (s : Slot) (queue : List ℕ) → occurs (s .owner) queue ≡ 0 → isOwnedRight N s ≡ true → isOwnedRight N (requeued s queue) ≡ true
+owned-with : (N : ℕ) (s : Slot) (queue : List ℕ) → occurs (s .owner) queue ≡ 0 → isBinaryRight N s ≡ true → isBinaryRight N (requeued s queue) ≡ true
 owned-with N s queue apart e =
     ⊎-elim (λ (a : (eqb (s .count) 1 and eqb (s .owner) 0 and eqb (s .nest) 0) ≡ true). or-first _ _ a)
     (λ b.

@@ -12,7 +12,7 @@ use Rattle.rules.specs.declared.Task.{Task}
 use Rattle.rules.specs.Numbers.{maxPriority, maxGeneration, within, allowed, byPriority, isBinary}
 use Rattle.rules.specs.Machine.{Slot, Tables, taskOf, slotOf, waits, isLive, idOf, urgency}
 use Rattle.rules.specs.Semaphore.{requeued}
-use Rattle.rules.specs.Agreement.{isEnding, isAtRest, isWaiter, isNamedRight, isZeroWhereQueued, isOwnedRight, isUnowned, isClear}
+use Rattle.rules.specs.Agreement.{isEnding, isAtRest, isWaiter, isNamedRight, isZeroWhereQueued, isBinaryRight, isOtherRight, isClear}
 
 -- what a pass answers and leaves: the marks are told where the test holds
 pub record Marked (agrees : Bool) (after : List Bool) (r : Bool) (seen : List Bool) : Type 0 where
@@ -55,7 +55,7 @@ QueueTested t seen id s r after = Marked (queueAgrees t seen id s) (seenAt seen 
 
 -- count, owner and nest by the class; that its owner is not in its queue is tested with the queue
 abbrev pub classAgrees : ℕ → Slot → Bool
-classAgrees N s = choose (isBinary (s .attributes)) (isOwnedRight N (requeued s [])) (isUnowned s)
+classAgrees N s = choose (isBinary (s .attributes)) (isBinaryRight N (requeued s [])) (isOtherRight s)
 
 -- the numbers of a live semaphore
 unfoldable pub headAgrees : ℕ → Slot → Bool

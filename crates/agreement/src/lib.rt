@@ -9,7 +9,7 @@ ghost use Rattle.laws.specs.Choose.{_and_};
 ghost use Rattle.words.specs.Words.{wordAt};
 ghost use Rattle.rules.specs.Numbers.{byPriority};
 ghost use Rattle.rules.specs.Machine.{slotOf};
-ghost use Rattle.rules.specs.Agreement.{countsFit, isEnding, isAtRest, isZeroWhereQueued, isOwnedRight, isUnowned, isClear};
+ghost use Rattle.rules.specs.Agreement.{countsFit, isEnding, isAtRest, isZeroWhereQueued, isBinaryRight, isOtherRight, isClear};
 ghost use Rattle.tables.specs.Layout.{headOf, slotWith, recordAt, modelOf};
 ghost use Rattle.tables.specs.Sizes.{Bounded};
 ghost use Rattle.agreement.specs.Tests.{isApart, isInTurn, QueueTested, classAgrees, headAgrees, SlotTested, taskAgrees, seenBelow, SlotsTested, tasksAgree};
@@ -19,7 +19,7 @@ ghost use Rattle.agreement.specs.Bytes.{agreesBytes};
 
 // A binary semaphore's count, owner and nest, with N tasks.
 fn is_owned_right(tasks: u32, s: Head) -> bool
-    ensures { λ r. ⌜ r ≡ isOwnedRight tasks (slotWith s []) ⌝ }
+    ensures { λ r. ⌜ r ≡ isBinaryRight tasks (slotWith s []) ⌝ }
 {
     if s.count == 1 {
         if s.owner != 0 {
@@ -41,7 +41,7 @@ fn is_owned_right(tasks: u32, s: Head) -> bool
 
 // The same of a semaphore of another class.
 fn is_unowned(s: Head) -> bool
-    ensures { λ r. ⌜ ((queue : List ℕ) → r ≡ isUnowned (slotWith s queue)) ⌝ }
+    ensures { λ r. ⌜ ((queue : List ℕ) → r ≡ isOtherRight (slotWith s queue)) ⌝ }
 {
     if s.owner != 0 {
         return false;

@@ -15,12 +15,12 @@ use Rattle.words.proofs.WordsInBytes.{Bytes, Words}
 use Rattle.rules.specs.declared.Call.{Call}
 use Rattle.rules.specs.Numbers.{allowed, isBinary}
 use Rattle.rules.specs.Machine.{Slot, Tables, noTask, isLive}
-use Rattle.rules.specs.Agreement.{Agrees, sizesFit, isEnding}
+use Rattle.rules.specs.Agreement.{Agrees, isEnding}
 use Rattle.rules.specs.Calls.{Outcome, perform, step}
 use Rattle.rules.specs.Fits.{callFits}
 use Rattle.rules.proofs.Invariants.Facts.{Facts, TaskFits, SlotFits, Unheld, Held, nthTask, nthSlot}
 use Rattle.rules.proofs.Invariants.FromTests.{agrees-facts}
-use Rattle.rules.proofs.Invariants.Agreeing.{agrees-true}
+use Rattle.rules.proofs.Invariants.Agreeing.{agrees-true, sizes-within}
 use Rattle.rules.proofs.Invariants.Room as room
 use Rattle.rules.proofs.Invariants.Kept.{kept}
 use Rattle.tables.specs.Codec.{taskRow, slotRow}
@@ -30,15 +30,6 @@ use Rattle.tables.proofs.LayoutRead.{length-laid, modelOf-laid}
 use Rattle.tables.proofs.LayoutHolds.{holds-rows, laid-bytes, task-row-words, slot-row-words}
 use Rattle.lookup.proofs.Model.{length-tasks, length-slots}
 use Rattle.calls.specs.Agreeing.{Agreeing}
-
--- N and S of agreeing tables are within the places there are
-sizes-few : (t : Tables) → sizesFit t ≡ true → (length (t .tasks) ≤ 32) × (length (t .slots) ≤ 64)
-unfolding sizesFit
-sizes-few t e =
-    ⊎-elim (λ z. let p = and-both _ _ z in omega (arith, eqb-true (length (t .tasks)) 0 (p .0), eqb-true (length (t .slots)) 0 (p .1)))
-    (λ w. let p = and-both _ _ w in
-    omega (arith, leb-true (length (t .tasks)) 32 (and-both _ _ (p .0) .1), leb-true (length (t .slots)) 64 (and-both _ _ (p .1) .1)))
-    (or-either _ _ e)
 
 -- one of some numbers is at most the greatest
 either-few : (a x m : ℕ) (b : Bool) → (eqb a x or b) ≡ true → x ≤ m → (b ≡ true → a ≤ m) → a ≤ m
@@ -59,10 +50,10 @@ module _ (t : Tables) (a : Agrees t) where
   facts = agrees-facts t a
 
   pub tasks-few : length (t .tasks) ≤ 32
-  tasks-few = sizes-few t (a .sizes) .0
+  tasks-few = sizes-within t (a .sizes) .tasks
 
   pub slots-few : length (t .slots) ≤ 64
-  slots-few = sizes-few t (a .sizes) .1
+  slots-few = sizes-within t (a .sizes) .slots
 
   -- every queue is within its places
   pub queue-few : (j : ℕ) → length (nthSlot t j .queue) ≤ 32

@@ -78,14 +78,14 @@ abbrev pub isZeroWhereQueued : Slot → Bool
 isZeroWhereQueued s = when (leb 1 (length (s .queue))) (eqb (s .count) 0)
 
 -- count 1, owner 0, nest 0, or count 0, an owner in 1..N who is not in its queue, nest at least 1
-abbrev pub isOwnedRight : ℕ → Slot → Bool
-isOwnedRight N s =
+abbrev pub isBinaryRight : ℕ → Slot → Bool
+isBinaryRight N s =
     (eqb (s .count) 1 and eqb (s .owner) 0 and eqb (s .nest) 0)
     or (eqb (s .count) 0 and within 1 N (s .owner) and eqb (occurs (s .owner) (s .queue)) 0 and leb 1 (s .nest))
 
 -- owner 0 and nest 0, simple binary a count of at most 1
-abbrev pub isUnowned : Slot → Bool
-isUnowned s = eqb (s .owner) 0 and eqb (s .nest) 0 and when (isSimple (s .attributes)) (leb (s .count) 1)
+abbrev pub isOtherRight : Slot → Bool
+isOtherRight s = eqb (s .owner) 0 and eqb (s .nest) 0 and when (isSimple (s .attributes)) (leb (s .count) 1)
 
 -- 0 but for the generation
 abbrev pub isClear : Slot → Bool
@@ -128,11 +128,11 @@ queuesOrdered t = eachLive t (λ n s. when (byPriority (s .attributes)) (isOrder
 unfoldable pub queuedAtZero : Tables → Bool
 queuedAtZero t = eachLive t (λ n s. isZeroWhereQueued s)
 
-unfoldable pub binariesOwned : Tables → Bool
-binariesOwned t = eachLive t (λ n s. when (isBinary (s .attributes)) (isOwnedRight (length (t .tasks)) s))
+unfoldable pub binariesRight : Tables → Bool
+binariesRight t = eachLive t (λ n s. when (isBinary (s .attributes)) (isBinaryRight (length (t .tasks)) s))
 
-unfoldable pub othersUnowned : Tables → Bool
-othersUnowned t = eachLive t (λ n s. when (isnt (isBinary (s .attributes))) (isUnowned s))
+unfoldable pub othersRight : Tables → Bool
+othersRight t = eachLive t (λ n s. when (isnt (isBinary (s .attributes))) (isOtherRight s))
 
 unfoldable pub readyAtRest : Tables → Bool
 readyAtRest t = eachTask t (λ q v. when (isnt (waits v)) (isAtRest v))
@@ -140,7 +140,7 @@ readyAtRest t = eachTask t (λ q v. when (isnt (waits v)) (isAtRest v))
 unfoldable pub freeSlotsClear : Tables → Bool
 freeSlotsClear t = eachSlot t (λ n s. when (isnt (isLive s)) (isClear s))
 
--- the tables agree: every clause holds
+-- the tables agree: every clause holds but the two of the bytes, which `agreesBytes` of crates/agreement adds
 pub record Agrees (t : Tables) : Type 0 where
   pub sizes : sizesFit t ≡ true
   pub numbers : numbersFit t ≡ true
@@ -151,8 +151,8 @@ pub record Agrees (t : Tables) : Type 0 where
   pub queues : queuesWait t ≡ true
   pub ordered : queuesOrdered t ≡ true
   pub atZero : queuedAtZero t ≡ true
-  pub owned : binariesOwned t ≡ true
-  pub unowned : othersUnowned t ≡ true
+  pub owned : binariesRight t ≡ true
+  pub unowned : othersRight t ≡ true
   pub atRest : readyAtRest t ≡ true
   pub clear : freeSlotsClear t ≡ true
 
@@ -160,4 +160,4 @@ pub record Agrees (t : Tables) : Type 0 where
 unfoldable pub agrees : Tables → Bool
 agrees t =
     sizesFit t and numbersFit t and answersFit t and liveNamed t and attributesAllowed t and waitersQueued t and queuesWait t
-    and queuesOrdered t and queuedAtZero t and binariesOwned t and othersUnowned t and readyAtRest t and freeSlotsClear t
+    and queuesOrdered t and queuedAtZero t and binariesRight t and othersRight t and readyAtRest t and freeSlotsClear t

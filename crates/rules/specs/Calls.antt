@@ -1,5 +1,5 @@
 -- Document 01: the eight calls, step by step, and the whole step with the test for 25. Checks give a status, or 0 for no refusal.
--- The numbers of a call are those of 32 bits; nothing here depends on that, and `callFits` of specs/Fits.antt says it.
+-- The numbers of a call are those of 32 bits, which `callFits` of Fits.antt says; the definitions do not depend on it, that agreement is kept does.
 use mathlib.Core.Bool.{Bool}
 use mathlib.Core.List.{List, [], _∷_, map}
 use Prim.Native.Nat.{ℕ, suc, _+_, _-_, _%_}

@@ -1,4 +1,4 @@
--- Each number of a call is one that a u32 holds.
+-- Each number of a call is one that a u32 holds. Priorities need no such test: above 255 they are refused.
 use mathlib.Core.Bool.{Bool, true}
 use mathlib.Core.List.{List, [], _∷_}
 use Prim.Native.Nat.{ℕ}

@@ -1,5 +1,5 @@
 -- Document 01: a task, a slot, the tables, the identifier, the next task.
--- Tasks and slots are counted from 1. Where a number may be missing it is 0, and every use tests for that first.
+-- Tasks and slots are counted from 1; 0 is none. `taskOf t 0` and `slotOf t 0` are the first record, and nothing of such a look reaches an answer or the tables.
 use mathlib.Core.Bool.{Bool}
 use mathlib.Core.List.{List, [], _∷_}
 use Prim.Native.Nat.{ℕ, suc, pred, _+_, _*_, _/_, _%_}

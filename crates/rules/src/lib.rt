@@ -65,6 +65,7 @@ pub struct Task {
 pub enum Wait {
     Poll,
     Forever,
+    // 0 is for ever
     Ticks(u32),
 }
 

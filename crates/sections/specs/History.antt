@@ -1,4 +1,4 @@
--- Document 01, "Guarded sections": the grants that the calls' answers make, read off a history that knows nothing of places.
+-- Document 01, "Guarded sections": the grants that the calls' answers make, read off a history whose entries hold no places.
 use mathlib.Core.List.{List, [], _∷_, _++_, map}
 use Prim.Native.Nat.{ℕ, pred, _+_}
 use lib.Dec.{eqb}

@@ -31,7 +31,7 @@ eachSection w p = eachScript w (λ s. all (length (s .sections)) (λ k. p (secti
 abbrev pub eachEvent : List Event → (Event → Bool) → Bool
 eachEvent events p = all (length events) (λ k. p (getD events k NoEvent))
 
--- 11: over a limit (8 sections a task, 16 steps a section, 64 cells), or cells and identifiers or locals that are not as many as they should be
+-- 11: over a limit (8 sections a task, 16 steps a section, 64 cells), or (our own rule) not as many identifiers as cells, or not 256 locals
 unfoldable pub limitsFit : Input → Bool
 limitsFit w =
     eachScript w (λ s. leb (length (s .sections)) 8) and eachSection w (λ s. leb (length (s .steps)) 16) and leb (length (w .memory .cells)) 64

@@ -42,7 +42,7 @@ pub record State : Type 0 where
 abbrev pub placeAt : State → ℕ → Place
 placeAt s i = getD (s .places) i (at 0 0)
 
--- script i has done something, and is at another place
+-- script i at a place, with other cells and locals; an obtain leaves both as they are, and its answer moves the place
 abbrev pub moved : State → ℕ → Place → Memory → State
 moved s i p memory = record { tables = s .tables; memory = memory; places = set (s .places) i p; grants = s .grants }
 
@@ -57,11 +57,12 @@ callerOf (Release caller id) = caller
 callerOf (Flush caller id) = caller
 callerOf Tick = 0
 
--- the task whose obtain a call is, or 0
+-- the task whose obtain a call is, or 0; 5 is the kind of an obtain
 abbrev pub obtainerOf : Call → ℕ
 obtainerOf call = choose (eqb (kindOf call) 5) (callerOf call) 0
 
--- what a call says to a task's obtain: the ending of its wait, whoever made the call, or the answer to the obtain itself; 100 where it says nothing
+-- what a call says to a task's obtain: the ending of its wait, whoever made the call (with 0 only a release ends one), or the answer to the
+-- obtain itself; 100 where it says nothing
 unfoldable pub said : Tables → Call → Outcome → ℕ → ℕ
 said t call o q = choose (waits (taskOf t q)) (taskOf (o .tables) q .answer) (choose (eqb (obtainerOf call) q) (o .answer .status) waiting)
 
@@ -72,6 +73,7 @@ placeAfter answer p = choose (eqb answer successful) (at (p .section) 1) (choose
 abbrev pub grantIf : Bool → ℕ → ℕ → List Grant
 grantIf test q section = choose test (record { task = q; section = section } ∷ []) []
 
+-- the tables agree at the outset and every call keeps that, so `perform` is `step` here
 unfoldable pub called : List Script → State → Request → State
 called scripts s r =
     let o = perform (s .tables) (r .call) (r .priorities) in

@@ -1,4 +1,4 @@
--- What lent bytes and tables are asked to be within: each is more than the one before it.
+-- What lent bytes are asked to be within, Sized and then Bounded, and what tables, Limited and then Holds.
 use mathlib.Core.Path.{_≡_}
 use mathlib.Core.List.{List}
 use Prim.Native.Nat.{ℕ, _≤_, _<_}

@@ -9,7 +9,8 @@ use Rattle.rules.specs.Agreement.{countsFit}
 use Rattle.tables.specs.Layout.{isLaid}
 use Rattle.agreement.specs.Tests.{seenBelow}
 use Rattle.agreement.specs.Bytes.{agreesBytes}
-use Rattle.agreement.proofs.Bytes.{bytesTests, laid-bounded, bytes-tested}
+use Rattle.tables.proofs.LayoutTest.{laid-bounded}
+use Rattle.agreement.proofs.Bytes.{bytesTests, bytes-tested}
 use Rattle.agreement.proofs.is_agreeing.Statement.{statement}
 use Rattle.agreement.proofs.is_agreeing.Tie as tie
 

@@ -16,9 +16,9 @@ use Rattle.rules.specs.declared.Task.{Task}
 use Rattle.rules.specs.Numbers.{maxTasks, maxSlots, allowed, byPriority, isBinary}
 use Rattle.rules.specs.Machine.{Slot, Tables, unstarted, taskOf, slotOf, waits, isLive, idOf}
 use Rattle.rules.specs.Agreement.{Agrees, agrees, sizesFit, numbersFit, answersFit, liveNamed, attributesAllowed, waitersQueued, queuesWait}
-use Rattle.rules.specs.Agreement.{queuesOrdered, queuedAtZero, binariesOwned, othersUnowned, readyAtRest, freeSlotsClear, eachLive}
+use Rattle.rules.specs.Agreement.{queuesOrdered, queuedAtZero, binariesRight, othersRight, readyAtRest, freeSlotsClear, eachLive}
 use Rattle.rules.specs.Agreement.{taskInLimits, answerFits, isQueuedOnce, isAtRest, slotInLimits, isNamedRight, allWaitOn, isOrdered}
-use Rattle.rules.specs.Agreement.{isZeroWhereQueued, isOwnedRight, isUnowned, isClear}
+use Rattle.rules.specs.Agreement.{isZeroWhereQueued, isBinaryRight, isOtherRight, isClear}
 
 pub agrees-true : (t : Tables) → Agrees t → agrees t ≡ true
 unfolding agrees
@@ -99,8 +99,8 @@ pub record LiveAgrees (t : Tables) (n : ℕ) (s : Slot) : Type 0 where
   pub waiting : allWaitOn t (idOf n s) (s .queue) ≡ true
   pub ordered : byPriority (s .attributes) ≡ true → isOrdered t (s .queue) ≡ true
   pub atZero : isZeroWhereQueued s ≡ true
-  pub owned : isBinary (s .attributes) ≡ true → isOwnedRight (length (t .tasks)) s ≡ true
-  pub unowned : isBinary (s .attributes) ≡ false → isUnowned s ≡ true
+  pub owned : isBinary (s .attributes) ≡ true → isBinaryRight (length (t .tasks)) s ≡ true
+  pub unowned : isBinary (s .attributes) ≡ false → isOtherRight s ≡ true
 
 pub record SlotAgrees (t : Tables) (n : ℕ) (s : Slot) : Type 0 where
   pub numbers : slotInLimits s ≡ true
@@ -118,7 +118,7 @@ module _ (t : Tables) where
   live-at p e j h = when-then _ _ (all-at _ _ e j h)
 
   pub agrees-items : Agrees t → ItemsAgree t
-  unfolding numbersFit answersFit liveNamed attributesAllowed waitersQueued queuesWait queuesOrdered queuedAtZero binariesOwned othersUnowned readyAtRest freeSlotsClear
+  unfolding numbersFit answersFit liveNamed attributesAllowed waitersQueued queuesWait queuesOrdered queuedAtZero binariesRight othersRight readyAtRest freeSlotsClear
   agrees-items a =
       let numbers = and-both _ _ (a .numbers) in
       record {
@@ -137,15 +137,15 @@ module _ (t : Tables) where
             waiting = live-at (λ n s. allWaitOn t (idOf n s) (s .queue)) (a .queues) j h l;
             ordered = when-then _ _ (live-at (λ n s. when (byPriority (s .attributes)) (isOrdered t (s .queue))) (a .ordered) j h l);
             atZero = live-at (λ n s. isZeroWhereQueued s) (a .atZero) j h l;
-            owned = when-then _ _ (live-at (λ n s. when (isBinary (s .attributes)) (isOwnedRight (length (t .tasks)) s)) (a .owned) j h l);
-            unowned = λ b. when-then _ _ (live-at (λ n s. when (isnt (isBinary (s .attributes))) (isUnowned s)) (a .unowned) j h l) (false-isnt _ b);
+            owned = when-then _ _ (live-at (λ n s. when (isBinary (s .attributes)) (isBinaryRight (length (t .tasks)) s)) (a .owned) j h l);
+            unowned = λ b. when-then _ _ (live-at (λ n s. when (isnt (isBinary (s .attributes))) (isOtherRight s)) (a .unowned) j h l) (false-isnt _ b);
           };
           whenFree = λ l. when-then _ _ (all-at _ _ (a .clear) j h) (false-isnt _ l);
         };
       }
 
   pub items-agree : ItemsAgree t → Agrees t
-  unfolding numbersFit answersFit liveNamed attributesAllowed waitersQueued queuesWait queuesOrdered queuedAtZero binariesOwned othersUnowned readyAtRest freeSlotsClear
+  unfolding numbersFit answersFit liveNamed attributesAllowed waitersQueued queuesWait queuesOrdered queuedAtZero binariesRight othersRight readyAtRest freeSlotsClear
   items-agree a =
       record {
         sizes = a .sizes;
@@ -157,8 +157,8 @@ module _ (t : Tables) where
         queues = each (λ n s. allWaitOn t (idOf n s) (s .queue)) (λ j h l. live j h l .waiting);
         ordered = each (λ n s. when (byPriority (s .attributes)) (isOrdered t (s .queue))) (λ j h l. then-when _ _ (live j h l .ordered));
         atZero = each (λ n s. isZeroWhereQueued s) (λ j h l. live j h l .atZero);
-        owned = each (λ n s. when (isBinary (s .attributes)) (isOwnedRight (length (t .tasks)) s)) (λ j h l. then-when _ _ (live j h l .owned));
-        unowned = each (λ n s. when (isnt (isBinary (s .attributes))) (isUnowned s)) (λ j h l. then-when _ _ (λ b. live j h l .unowned (isnt-false _ b)));
+        owned = each (λ n s. when (isBinary (s .attributes)) (isBinaryRight (length (t .tasks)) s)) (λ j h l. then-when _ _ (live j h l .owned));
+        unowned = each (λ n s. when (isnt (isBinary (s .attributes))) (isOtherRight s)) (λ j h l. then-when _ _ (λ b. live j h l .unowned (isnt-false _ b)));
         atRest = all-of _ _ (λ i h. then-when _ _ (λ w. a .task i h .atRest (isnt-false _ w)));
         clear = all-of _ _ (λ j h. then-when _ _ (λ l. a .slot j h .whenFree (isnt-false _ l)));
       }

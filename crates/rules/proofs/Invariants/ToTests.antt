@@ -12,7 +12,7 @@ use Rattle.laws.specs.Choose.{_and_}
 use Rattle.laws.proofs.Choose.{and-both, both-and, or-first, or-second, then-when, false-isnt}
 use Rattle.laws.proofs.All.{all-of}
 use Rattle.rules.specs.Machine.{Slot, Tables, slotOf, waits, isLive, urgency, idOf, names}
-use Rattle.rules.specs.Agreement.{Agrees, isWaiter, isQueuedOnce, isOwnedRight, occurs, sizesFit}
+use Rattle.rules.specs.Agreement.{Agrees, isWaiter, isQueuedOnce, isBinaryRight, occurs, sizesFit}
 use Rattle.rules.proofs.Invariants.Lists.{ascending-at, bit-yes, bit-true, occurs-at}
 use Rattle.rules.proofs.Invariants.Agreeing.{TaskAgrees, LiveAgrees, SlotAgrees, sizes-within, items-agree}
 use Rattle.rules.proofs.Invariants.Facts.{nthTask, nthSlot, waitsOn, Unheld, Held, Names, Facts, waits-within, live-within}
@@ -58,7 +58,7 @@ module _ (t : Tables) (f : Facts t) where
         atRest = λ w. let r = v .atRest w in both-and (eq-eqb _ _ (r .0)) (eq-eqb _ _ (r .1));
       }
 
-  held : (s : Slot) → Unheld s ⊎ Held (length (t .tasks)) s → isOwnedRight (length (t .tasks)) s ≡ true
+  held : (s : Slot) → Unheld s ⊎ Held (length (t .tasks)) s → isBinaryRight (length (t .tasks)) s ≡ true
   held s =
       ⊎-elim
       (λ u. or-first _ _ (both-and (eq-eqb _ _ (u .count)) (both-and (eq-eqb _ _ (u .owner)) (eq-eqb _ _ (u .nest)))))
