@@ -110,6 +110,8 @@ def retargeted(text, layout, triple):
     for function in functions:
         text = text.replace(f'define internal {function.given()} @"capi::{function.name}"', f"define hidden {function.given()} @capi_{function.name}")
     text = re.sub(NAME, lambda name: "@" + name[0][2:-1].replace("::", "."), text)  # as every assembler reads it
+    # Each call, and an obtain's step, keeps a frame of its own: taken into the one function that serves them all, they would add up.
+    text = re.sub(r"^(define internal .*@(?:calls\.(\w+)\.\2|semaphore\.Semaphore\.take)\(.*\)) #0 \{$", r"\1 noinline #0 {", text, flags=re.M)
     # A length of 64 bits would be handed to memmove and memset as it is, whose lengths have 32.
     text = re.sub(r"@(llvm\.mem[\w.]+)\.i64\((.*), i64( \d+)?, i1", r"@\1.i32(\2, i32\3, i1", text)
     return text
