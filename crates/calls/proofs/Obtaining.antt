@@ -19,7 +19,7 @@ use Rattle.rules.proofs.Invariants.Refusals.{Caller, task-only}
 use Rattle.semaphore.specs.declared.Taken.{Taken as TakenRecord}
 use Rattle.semaphore.specs.Record.{slotFrom, TakenIs}
 use Rattle.tables.specs.Layout.{laid, taskAt}
-use Rattle.changes.proofs.PutWakeStart.{task-numbered}
+use Rattle.tables.proofs.LayoutRead.{task-numbered}
 use Rattle.calls.specs.declared.enter.Entered.{Entered}
 use Rattle.calls.specs.Entered.{Enters}
 use Rattle.calls.proofs.Agreeing.{tasks-few}

@@ -16,16 +16,8 @@ use Rattle.semaphore.specs.declared.Semaphore.{Semaphore}
 use Rattle.semaphore.specs.Record.{Stands}
 use Rattle.tables.specs.Codec.{taskRow, recordRow}
 use Rattle.tables.specs.Layout.{taskPlace, slotPlace, laid, taskAt}
-use Rattle.tables.proofs.LayoutRead.{laid-words, task-laid}
+use Rattle.tables.proofs.LayoutRead.{task-numbered}
 use Rattle.tables.proofs.LayoutStore.{store-task-laid, store-slot-laid, starting, start-counts, start-task, start-all}
-
--- ---- a task that is read from bytes
-
--- task q is the one at q - 1
-pub task-numbered : (m : List ℕ) (t : Tables) (q : ℕ) → Bytes m → m ≡ laid t → 1 ≤ q → q ≤ 32 → taskAt m (q - 1) ≡ taskOf t q
-task-numbered m t q b e l h =
-    let p : q - 1 ≡ pred q = sub-one q in
-    rw (e, p) (task-laid t (laid-words t (rw e at b)) (pred q) (omega arith))
 
 -- ---- a task or a slot that is stored
 

@@ -40,7 +40,7 @@ use Rattle.sections.proofs.Serial.{grantOf, isOpenAt, restOf, same-scri
 use Rattle.sections.proofs.Serial.Move.{passes}
 use Rattle.sections.proofs.Kept.{OfSection, Fixed, Sound, move-said, numbered, own-ids, back-of, granted-seen, Goes, goes-seen, Next, called-next}
 
-wait-fits : (options timeout : ℕ) → timeout ≤ maxNumber → waitFits (waitOf options timeout) ≡ true
+pub wait-fits : (options timeout : ℕ) → timeout ≤ maxNumber → waitFits (waitOf options timeout) ≡ true
 unfolding waitOf
 wait-fits options timeout h =
     choose-cases (λ (z : Wait). waitFits z ≡ true) (eqb (options % 2) 1) _ _ (λ e. refl)

@@ -1,7 +1,8 @@
 -- What is read from a layout: the counts, each task, each slot, and the whole model.
 use mathlib.Core.Path.{_≡_, refl, sym, ap, _∙_}
 use mathlib.Core.List.{List}
-use Prim.Native.Nat.{ℕ, suc, _+_, _*_, _≤_, _<_}
+use Prim.Native.Nat.{ℕ, suc, pred, _+_, _-_, _*_, _≤_, _<_}
+use native.Mathlib.Numerals.{sub-one}
 use native.Mathlib.Omega.{arith}
 use native.Mathlib.Decide.{decLt}
 use lib.ListN.{length, getD, List·getD-eq-default}
@@ -10,7 +11,7 @@ use Rattle.laws.proofs.Fit.{take-fit, length-tabulate, getD-tabulate, tabulate-
 use Rattle.words.specs.Words.{wordAt}
 use Rattle.words.proofs.WordsInBytes.{Bytes, Words, words-within, words-below, length-bytesOf, wordAt-bytesOf, wordAt-below}
 use Rattle.rules.specs.declared.Task.{Task}
-use Rattle.rules.specs.Machine.{Slot, Tables, noTask, freeSlot}
+use Rattle.rules.specs.Machine.{Slot, Tables, noTask, freeSlot, taskOf}
 use Rattle.rules.specs.Semaphore.{requeued}
 use Rattle.semaphore.specs.declared.Semaphore.{Semaphore}
 use Rattle.semaphore.specs.Record.{slotFrom, recordOf, Padded}
@@ -105,6 +106,12 @@ module _ (t : Tables) (w : Words (layout t)) where
   record-laid i l =
       let s : Slot = getD (t .slots) i (freeSlot 0) in
       ap {B = Semaphore} recordFrom (row-laid (slotPlace i) 40 (slotRow s) (length-slotRow s) (λ j b. slot-word t i j l b))
+
+-- task q of the bytes is the one at q - 1
+pub task-numbered : (m : List ℕ) (t : Tables) (q : ℕ) → Bytes m → m ≡ laid t → 1 ≤ q → q ≤ 32 → taskAt m (q - 1) ≡ taskOf t q
+task-numbered m t q b e l h =
+    let p : q - 1 ≡ pred q = sub-one q in
+    rw (e, p) (task-laid t (laid-words t (rw e at b)) (pred q) (omega arith))
 
 -- ---- tables that a layout holds
 

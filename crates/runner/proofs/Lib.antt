@@ -1,0 +1,11 @@
+pub mod Answering
+pub mod Telling
+pub mod Calling
+pub mod Turning
+pub mod Acting
+pub mod Accepting
+pub mod Rooms
+pub mod Reaching
+pub mod Allowing
+pub mod Replying
+pub mod Demands
