@@ -12,8 +12,8 @@ check:
 fmt:
 	@rt fmt
 
-# The session program, from the proved crate mast_session.
-build: build/mast-session
+# The programs: a session, from the proved crate mast_session, and runs of guarded sections.
+build: build/mast-session build/mast-sections
 
 build/mast-session: FORCE
 	@mkdir -p build
@@ -21,11 +21,26 @@ build/mast-session: FORCE
 	@cmp -s target/bin/mast_session $@ || cp target/bin/mast_session $@
 
 # The sessions of examples/, or the one that SESSION names, each line with its answer.
-run: build
+run: build/mast-session
 ifdef SESSION
 	@python3 tools/show_session.py build/mast-session "$(SESSION)"
 else
 	@python3 tools/show_session.py build/mast-session examples/worked.session examples/day.session
+endif
+
+# The program that runs guarded sections from a text, from the proved crate mast_sections.
+build/mast-sections: FORCE
+	@mkdir -p build
+	@python3 tools/prove.py build/sections.log rt check mast_sections
+	@cmp -s target/bin/mast_sections $@ || cp target/bin/mast_sections $@
+
+# The runs of examples/, or the one that FILE names.
+.PHONY: sections
+sections: build/mast-sections
+ifdef FILE
+	@build/mast-sections "$(FILE)"
+else
+	@bash tools/show_sections
 endif
 
 # The static library for C, from the proved crate capi; with TARGET=name, for a processor of tools/targets/table.txt.
@@ -36,10 +51,13 @@ else
 lib: build/libmastclover.a
 endif
 
+# An object for the calls and one for mast_run, so that a program links what it uses.
 build/libmastclover.a: FORCE
-	@mkdir -p build
+	@mkdir -p build/members
 	@python3 tools/prove.py build/lib.log rt staticlib capi
-	@cmp -s target/staticlib/libcapi.a $@ || cp target/staticlib/libcapi.a $@
+	@python3 tools/prove.py build/lib_run.log rt staticlib capi_run
+	@cd build/members && rm -f * && ar x ../../target/staticlib/libcapi.a && ar x ../../target/staticlib/libcapi_run.a && ar rcsD all.a *.o
+	@cmp -s build/members/all.a $@ || cp build/members/all.a $@
 
 FORCE:
 
@@ -56,8 +74,10 @@ compare: lib
 
 SECONDS ?= 60
 SEED ?= 1
+RUNS ?= 100000
 fuzz: compare
 	compare/target/release/compare --seconds $(SECONDS) --seed $(SEED)
+	compare/target/release/compare_runs $(RUNS) $(SEED)
 
 # The static library over task records that a caller keeps itself, from the proved crate records, and such a caller.
 .PHONY: records
@@ -70,7 +90,7 @@ build/libmastrecords.a: FORCE
 	@rt staticlib records >build/records.log 2>&1 || { cat build/records.log; exit 1; }
 	@cmp -s target/staticlib/librecords.a $@ || cp target/staticlib/librecords.a $@
 
-bench: compare build
+bench: compare build/mast-session
 	compare/target/release/bench
 	@$(CC) -std=gnu99 -Wall -Wextra -O2 -Iinclude tools/bench_agreement.c build/libmastclover.a -o build/bench_agreement
 	python3 tools/bench_session.py

@@ -20,8 +20,8 @@
  * the most urgent, 255 the least. A task is ready, or waits on one semaphore.
  *
  * Callers. `caller` is the number of the task that makes the call. An interrupt is caller 0; it may
- * call mast_release and mast_flush. mast_start, mast_ident, mast_tick and mast_task have no caller
- * and may be called from anywhere. A call must not be interrupted by another one on the same
+ * call mast_release and mast_flush. mast_start, mast_ident, mast_tick, mast_task and mast_run have
+ * no caller and may be called from anywhere. A call must not be interrupted by another one on the same
  * tables: mask interrupts around each call, and around the switch to `next`, if handlers make calls
  * too. examples/first.c shows both.
  *
@@ -72,12 +72,12 @@ extern "C" {
 /* Statuses, with the names and numbers of RTEMS (RTEMS_SUCCESSFUL and so on). */
 #define MAST_SUCCESSFUL 0             /* done; a task's answer: it got it, or never waited */
 #define MAST_INVALID_NAME 3           /* name 0, or no live semaphore has the name */
-#define MAST_INVALID_ID 4             /* no live semaphore has the identifier; no such task */
+#define MAST_INVALID_ID 4             /* no live semaphore has the identifier; no such task; mast_run */
 #define MAST_TOO_MANY 5               /* no slot is left for another semaphore */
 #define MAST_TIMEOUT 6                /* a task's answer only: its ticks ran out */
 #define MAST_OBJECT_WAS_DELETED 7     /* a task's answer only: the semaphore was deleted */
 #define MAST_INVALID_NUMBER 10        /* a count above 1 for a binary class; N or S out of limits */
-#define MAST_NOT_DEFINED 11           /* attributes that are not offered */
+#define MAST_NOT_DEFINED 11           /* attributes that are not offered; mast_run */
 #define MAST_RESOURCE_IN_USE 12       /* the binary semaphore has an owner */
 #define MAST_UNSATISFIED 13           /* not to be had, at its maximum; a task's answer: flushed */
 #define MAST_INCORRECT_STATE 14       /* the caller is waiting; already started */
@@ -252,6 +252,104 @@ mast_answer mast_tick(uint8_t *tables, size_t length);
  *   MAST_SUCCESSFUL        value: the task's answer
  */
 mast_answer mast_task(const uint8_t *tables, size_t length, uint32_t task);
+
+/*
+ * Guarded sections, run. A section is what a task does between the obtain and the release of one
+ * binary semaphore: steps on shared cells and on the task's own locals. mast_run takes the turns of
+ * tasks with such sections by the calls above, among calls by others and ticks, and reports which
+ * sections were granted, in order. Once none is open, cells and locals are what the granted
+ * sections give when each is run whole, in the order of their grants.
+ *
+ * Scripts are rows of MAST_ROW numbers, laid end to end: a kind, then what the kind takes, then
+ * numbers that are not looked at. A script's sections follow it, and a section's steps follow that.
+ *     MAST_SCRIPT  task                     the script of a task; one each
+ *     MAST_SECTION id, options, timeout     how its obtain waits is as in mast_obtain
+ *     MAST_LOAD    cell, local              the cell's number into the local
+ *     MAST_STORE   local, cell              the local's number into the cell
+ *     MAST_SET     local, number            the number into the local
+ *     MAST_ADD     local, other             other becomes other + local modulo 4294967296
+ *
+ * Events are a kind and its numbers each, laid end to end; a start's priorities stand behind their
+ * count, all other numbers in the order of the calls' arguments:
+ *     MAST_EVENT_TURN     task              the task's obtain, its next step or its release
+ *     MAST_EVENT_START    slots, count, then as many priorities
+ *     MAST_EVENT_CREATE   caller, name, count, attributes
+ *     MAST_EVENT_IDENT    name
+ *     MAST_EVENT_DELETE   caller, id
+ *     MAST_EVENT_OBTAIN   caller, id, options, timeout
+ *     MAST_EVENT_RELEASE  caller, id
+ *     MAST_EVENT_FLUSH    caller, id
+ *     MAST_EVENT_TICK
+ *
+ * Cells, a script's sections, steps and locals count from 0, tasks from 1.
+ */
+#define MAST_ROW 4
+#define MAST_SCRIPT 1
+#define MAST_SECTION 2
+#define MAST_LOAD 3
+#define MAST_STORE 4
+#define MAST_SET 5
+#define MAST_ADD 6
+
+#define MAST_EVENT_TURN 1
+#define MAST_EVENT_START 2
+#define MAST_EVENT_CREATE 3
+#define MAST_EVENT_IDENT 4
+#define MAST_EVENT_DELETE 5
+#define MAST_EVENT_OBTAIN 6
+#define MAST_EVENT_RELEASE 7
+#define MAST_EVENT_FLUSH 8
+#define MAST_EVENT_TICK 9
+
+/* The limits of mast_run. */
+#define MAST_MAXIMUM_SECTIONS 8 /* of a script */
+#define MAST_MAXIMUM_STEPS 16   /* of a section */
+#define MAST_MAXIMUM_CELLS 64
+
+/* Numbers: the locals of all 32 tasks, eight each; places and grants of any run that is not refused. */
+#define MAST_LOCALS 256
+#define MAST_PLACES 64
+#define MAST_GRANTS 513
+
+/*
+ * Runs `event_numbers` numbers of events on the tables, or refuses them all before the first. What
+ * is lent must not overlap; each pointer but `tables` may be NULL, only when its length is 0.
+ *
+ *   scripts, events    as above; read only
+ *   ids                the identifier that each cell belongs to, as many as cells; read only
+ *   cells              the shared numbers
+ *   locals             MAST_LOCALS numbers: local l of task q is number (q - 1) * 8 + l
+ *   places             two numbers for each script, in their order: its section, and its position
+ *                      there: 0 the obtain, not yet made or waited for; p from 1 the section's p-th
+ *                      step comes next; one more than its steps the release. A finished script
+ *                      stands at the number of its sections and 0. MAST_PLACES numbers are enough
+ *                      for 32 scripts, and more are refused: with less than two numbers for each
+ *                      script by MAST_NOT_DEFINED, with room for them by MAST_INVALID_ID
+ *   grants             how many sections were granted, then the task and the section of each, in
+ *                      order, as far as there is room. MAST_GRANTS numbers are enough for all
+ *
+ *   MAST_INTERNAL_ERROR    the tables are damaged or have the wrong length
+ *   MAST_NOT_DEFINED       a limit is passed; numbers of scripts that are no whole rows, a step
+ *                          outside of a section or a section outside of a script; not MAST_LOCALS
+ *                          locals; not as many identifiers as cells; no room for a place of each
+ *                          script; more than 4294967295 numbers of events; a local above 7; two
+ *                          scripts for one task; a cell that is missing or belongs to another
+ *                          identifier than its section's; what is no step or no event; a section's
+ *                          identifier that is not a live semaphore with attributes
+ *                          MAST_BINARY_SEMAPHORE, alone or with MAST_PRIORITY, and no owner
+ *   MAST_INVALID_ID        a script's task that is no ready task; a turn of a task without a
+ *                          script; an event whose caller is a script's task
+ *   MAST_SUCCESSFUL        the events are run
+ *
+ * A refused run changes neither tables nor cells nor locals; the places of the scripts, one for each
+ * whole row of kind MAST_SCRIPT, are set to 0 and the count of the grants to 0, as far as there is
+ * room. Numbers behind the places and grants stay.
+ */
+mast_answer mast_run(uint8_t *tables, size_t length, const uint32_t *scripts,
+                     size_t script_numbers, const uint32_t *events, size_t event_numbers,
+                     const uint32_t *ids, size_t id_count, uint32_t *cells, size_t cell_count,
+                     uint32_t *locals, size_t local_count, uint32_t *places, size_t place_numbers,
+                     uint32_t *grants, size_t grant_numbers);
 
 #ifdef __cplusplus
 }

@@ -12,17 +12,17 @@ import tempfile
 
 top = pathlib.Path(__file__).resolve().parent.parent
 NUMBERS = top / "crates/rules/specs/Numbers.antt"
-SPECS = {name: (top / f"crates/{name}/specs") for name in ("rules", "tables")}
+SPECS = {name: (top / f"crates/{name}/specs") for name in ("rules", "tables", "sections", "encoding")}
 # No call takes a generation, and every 32-bit number is one: these limits have no macro.
 UNNAMED = {"maxGeneration", "maxNumber"}
 
 
 # ---- the definitions
 
-def body(name):
-    """The right side of a definition of rules or tables, without comments."""
+def body(name, crate=None):
+    """The right side of a definition of these crates, without comments."""
     pattern = rf"^{name}(?: [^=\n]*)? =((?:.*\n)(?:[ \t]+.*\n)*)"
-    for folder in SPECS.values():
+    for folder in [SPECS[crate]] if crate else SPECS.values():
         for path in sorted(folder.glob("*.antt")):
             if found := re.search(pattern, path.read_text() + "\n", re.M):
                 return re.sub(r"--.*", "", found[1])
@@ -83,7 +83,28 @@ def expected():
     # waitOf: bit 0 of the options polls, so no other bit is an option
     modulus, polls = literals("waitOf", r"options % ")[0], literals("waitOf", r"options % \d+\) ")[0]
     options = {"MAST_NO_WAIT": polls, "MAST_WAIT": (polls + 1) % modulus, "MAST_DEFAULT_OPTIONS": (polls + 1) % modulus}
-    return {**sized, **statuses, **attributes, **options, "MAST_NO_TIMEOUT": literals("waitOf", r"eqb timeout ")[0]}
+    return {**sized, **statuses, **attributes, **options, **run(), "MAST_NO_TIMEOUT": literals("waitOf", r"eqb timeout ")[0]}
+
+
+def run():
+    """The numbers of mast_run: kinds by the words of steps and calls, limits, and the room that is enough."""
+    kinds = {"SCRIPT": literals("beginsScript", r"eqb \(r \.kind\) ")[0], "SECTION": literals("beginsSection", r"eqb \(r \.kind\) ")[0]}
+    kinds |= {word.upper(): int(n) for n, word in re.findall(r"eqb \(r \.kind\) (\d+)\) \((\w+)", body("stepOf", "encoding"))}
+    events = {word.upper(): int(n) for n, word in re.findall(r"eqb kind (\d+)\) \((\w+)", body("callOf", "encoding"))}
+    events |= {"TURN": literals("eventAt", r"eqb \(getD ns 0 0\) ")[0], "TICK": max(literals("sizeOf", r"eqb kind "))}
+    sections, steps, cells = (literals("limitsFit", before)[0] for before in (r"\.sections\)\) ", r"\.steps\)\) ", r"\.cells\)\) "))
+    tasks, row = number("maxTasks"), only(set(literals("rowsOf", r"length ns / ")))
+    return {
+        **{f"MAST_{name}": n for name, n in kinds.items()},
+        **{f"MAST_EVENT_{name}": n for name, n in events.items()},
+        "MAST_ROW": row,
+        "MAST_MAXIMUM_SECTIONS": sections,
+        "MAST_MAXIMUM_STEPS": steps,
+        "MAST_MAXIMUM_CELLS": cells,
+        "MAST_LOCALS": literals("limitsFit", r"\.locals\)\) ")[0],
+        "MAST_PLACES": 2 * tasks,
+        "MAST_GRANTS": 1 + 2 * tasks * sections,
+    }
 
 
 def only(numbers):

@@ -6,20 +6,41 @@
 #include "mastclover.h"
 
 enum { STACK = 65536, PAINT = 0xA5 };
-enum function { START, CREATE, IDENT, DELETE, OBTAIN, RELEASE, FLUSH, TICK, TASK, FUNCTIONS };
+enum function { START, CREATE, IDENT, DELETE, OBTAIN, RELEASE, FLUSH, TICK, TASK, RUN, FUNCTIONS };
 
 static unsigned char stack[STACK];
 static uint8_t tables[MAST_TABLES_LENGTH];
 static ucontext_t here, there;
 
 static const char *const names[FUNCTIONS] = {
-    "start", "create", "ident", "delete", "obtain", "release", "flush", "tick", "task",
+    "start", "create", "ident", "delete", "obtain", "release", "flush", "tick", "task", "run",
 };
 static size_t most[FUNCTIONS];
+static int ran;
 
 /* The call to be made: a context's entry takes no arguments. */
 static enum function function;
 static uint32_t a, b, c, d;
+
+/* Tasks 2 and 3 take turns in sections on identifier 65537, among every other call. */
+static void run_sections(void)
+{
+    static const uint32_t scripts[] = {
+        MAST_SCRIPT, 2, 0, 0, MAST_SECTION, 65537, MAST_WAIT, 5, MAST_SET, 0, 7, 0, MAST_STORE, 0, 0, 0,
+        MAST_SCRIPT, 3, 0, 0, MAST_SECTION, 65537, MAST_WAIT, 0, MAST_LOAD, 0, 1, 0, MAST_ADD, 1, 1, 0,
+    };
+    static const uint32_t events[] = {
+        MAST_EVENT_TURN, 2, MAST_EVENT_TURN, 3, MAST_EVENT_START, 1, 2, 3, 4, MAST_EVENT_TURN, 2, MAST_EVENT_TICK,
+        MAST_EVENT_CREATE, 1, 9, 0, MAST_PRIORITY, MAST_EVENT_OBTAIN, 4, 65538, MAST_WAIT, 2, MAST_EVENT_OBTAIN, 5, 65538, MAST_WAIT, 1,
+        MAST_EVENT_IDENT, 9, MAST_EVENT_TICK, MAST_EVENT_FLUSH, 0, 65538, MAST_EVENT_RELEASE, 1, 65538, MAST_EVENT_DELETE, 1, 65538,
+        MAST_EVENT_TURN, 2, MAST_EVENT_TURN, 2, MAST_EVENT_TURN, 3, MAST_EVENT_TURN, 3, MAST_EVENT_TURN, 3,
+    };
+    static const uint32_t ids[] = { 65537 };
+    static uint32_t cells[1], locals[MAST_LOCALS], places[MAST_PLACES], grants[MAST_GRANTS];
+    mast_run(tables, sizeof tables, scripts, sizeof scripts / sizeof *scripts, events, sizeof events / sizeof *events, ids, 1, cells, 1,
+             locals, MAST_LOCALS, places, MAST_PLACES, grants, MAST_GRANTS);
+    ran = grants[0] == 2 && cells[0] == 7 && locals[17] == 14;
+}
 
 static void call(void)
 {
@@ -34,6 +55,7 @@ static void call(void)
     case FLUSH: mast_flush(tables, sizeof tables, a, b); break;
     case TICK: mast_tick(tables, sizeof tables); break;
     case TASK: mast_task(tables, sizeof tables, a); break;
+    case RUN: run_sections(); break;
     case FUNCTIONS: break;
     }
 }
@@ -73,6 +95,14 @@ int main(void)
         run(RELEASE, round == 1 ? 4 : 1, id, 0, 0);
         run(START, 4, 0, 0, 0);
         run(DELETE, 1, id, 0, 0);
+    }
+    memset(tables, 0, sizeof tables);
+    run(START, 4, 0, 0, 0);
+    run(CREATE, 1, 7, 1, MAST_BINARY_SEMAPHORE | MAST_PRIORITY);
+    run(RUN, 0, 0, 0, 0);
+    if (!ran) {
+        fprintf(stderr, "the run of sections did not come to its end\n");
+        return 1;
     }
     for (i = 0; i < FUNCTIONS; i++)
         printf("mast_%-8s %5zu bytes\n", names[i], most[i]);

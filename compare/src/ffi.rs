@@ -1,6 +1,7 @@
 //! The library's C functions, behind safe wrappers over lent bytes.
 
 use crate::call::{Answer, Call, Manager};
+use crate::sections::lent::Lent;
 
 #[repr(C)]
 struct MastAnswer {
@@ -39,6 +40,24 @@ unsafe extern "C" {
     fn mast_flush(tables: *mut u8, length: usize, caller: u32, id: u32) -> MastAnswer;
     fn mast_tick(tables: *mut u8, length: usize) -> MastAnswer;
     fn mast_task(tables: *const u8, length: usize, task: u32) -> MastAnswer;
+    fn mast_run(
+        tables: *mut u8,
+        length: usize,
+        scripts: *const u32,
+        script_numbers: usize,
+        events: *const u32,
+        event_numbers: usize,
+        ids: *const u32,
+        id_count: usize,
+        cells: *mut u32,
+        cell_count: usize,
+        locals: *mut u32,
+        local_count: usize,
+        places: *mut u32,
+        place_numbers: usize,
+        grants: *mut u32,
+        grant_numbers: usize,
+    ) -> MastAnswer;
 }
 
 impl From<MastAnswer> for Answer {
@@ -85,6 +104,67 @@ pub fn tick(tables: &mut [u8]) -> Answer {
 
 pub fn task(tables: &[u8], task: u32) -> Answer {
     unsafe { mast_task(tables.as_ptr(), tables.len(), task) }.into()
+}
+
+/// Numbers between two guards, which a write outside of what is lent would change.
+struct Guarded {
+    numbers: Vec<u32>,
+    guard: u32,
+}
+
+impl Guarded {
+    const WIDTH: usize = 4;
+
+    fn new(numbers: &[u32], guard: u32) -> Self {
+        let guards = [guard; Self::WIDTH];
+        Guarded { numbers: [&guards, numbers, &guards].concat(), guard }
+    }
+
+    fn middle(&mut self) -> &mut [u32] {
+        let end = self.numbers.len() - Self::WIDTH;
+        &mut self.numbers[Self::WIDTH..end]
+    }
+
+    fn put_back(mut self, numbers: &mut Vec<u32>) {
+        numbers.copy_from_slice(self.middle());
+        let (guard, end) = (self.guard, self.numbers.len() - Self::WIDTH);
+        let mut around = self.numbers[..Self::WIDTH].iter().chain(&self.numbers[end..]);
+        assert!(around.all(|&number| number == guard), "numbers outside of what is lent were written");
+    }
+}
+
+/// A run on what is lent.
+pub fn run(lent: &mut Lent) -> Answer {
+    let guarded = |numbers: &[u32]| Guarded::new(numbers, 0xA5A5_5A5A);
+    let (mut cells, mut locals) = (guarded(&lent.cells), guarded(&lent.locals));
+    let (mut places, mut grants) = (guarded(&lent.places), guarded(&lent.grants));
+    let (cell, local) = (cells.middle(), locals.middle());
+    let (place, grant) = (places.middle(), grants.middle());
+    let answer = unsafe {
+        mast_run(
+            lent.tables.as_mut_ptr(),
+            lent.tables.len(),
+            lent.scripts.as_ptr(),
+            lent.scripts.len(),
+            lent.events.as_ptr(),
+            lent.events.len(),
+            lent.ids.as_ptr(),
+            lent.ids.len(),
+            cell.as_mut_ptr(),
+            cell.len(),
+            local.as_mut_ptr(),
+            local.len(),
+            place.as_mut_ptr(),
+            place.len(),
+            grant.as_mut_ptr(),
+            grant.len(),
+        )
+    };
+    cells.put_back(&mut lent.cells);
+    locals.put_back(&mut lent.locals);
+    places.put_back(&mut lent.places);
+    grants.put_back(&mut lent.grants);
+    answer.into()
 }
 
 /// The library as a manager.

@@ -9,5 +9,6 @@ pub mod inplace;
 pub mod layout;
 pub mod model;
 pub mod record;
+pub mod sections;
 pub mod session;
 pub mod status;

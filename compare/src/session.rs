@@ -120,7 +120,7 @@ fn parse_start(rest: &[u8]) -> Option<Call> {
 }
 
 /// Exactly `COUNT` numbers, each with a space before it, and nothing after them.
-fn numbers<const COUNT: usize>(mut rest: &[u8]) -> Option<[u32; COUNT]> {
+pub fn numbers<const COUNT: usize>(mut rest: &[u8]) -> Option<[u32; COUNT]> {
     let mut found = [0; COUNT];
     for place in &mut found {
         (*place, rest) = number(rest)?;

@@ -71,7 +71,7 @@ fn draw_line(rng: &mut Rng, plan: &Plan, machine: &Machine) -> Vec<u8> {
 }
 
 /// A `start` of 255, 256 or 257 bytes, sometimes much more.
-fn line_of_length(rng: &mut Rng) -> Vec<u8> {
+pub fn line_of_length(rng: &mut Rng) -> Vec<u8> {
     let length = rng.pick(&[LONGEST_LINE - 1, LONGEST_LINE, LONGEST_LINE + 1, 300, 70_000]);
     let mut line = if length.is_multiple_of(2) { b"start 64".to_vec() } else { b"start 4".to_vec() };
     while line.len() < length {
@@ -88,7 +88,7 @@ fn any_byte(rng: &mut Rng) -> u8 {
 }
 
 /// Breaks a line in one of many ways, a few of which leave it whole.
-fn break_line(rng: &mut Rng, mut line: Vec<u8>) -> Vec<u8> {
+pub fn break_line(rng: &mut Rng, mut line: Vec<u8>) -> Vec<u8> {
     let at = rng.below(line.len() + 1);
     let space = line.iter().position(|&byte| byte == b' ').unwrap_or(line.len());
     match rng.below(13) {
