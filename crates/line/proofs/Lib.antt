@@ -1,7 +1,7 @@
-mod Fields
+pub mod Fields
 mod Digits
 mod Reading
-mod Words
-mod Requests
+pub mod Words
+pub mod Requests
 pub mod Printing
 mod Vectors

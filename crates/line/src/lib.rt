@@ -36,7 +36,7 @@ enum Digit {
 }
 
 // What is read behind the word.
-enum Numbers {
+pub enum Numbers {
     Broken,
     Count(usize),
 }
@@ -51,7 +51,7 @@ fn byte_at(line: &[u8], at: usize) -> u8
     32
 }
 
-fn word_length(line: &[u8]) -> usize
+pub fn word_length(line: &[u8]) -> usize
     ensures { λ r. ⌜ r ≡ length (first (now (line .entry))) ⌝ }
 {
     let mut n = 0;
@@ -61,7 +61,7 @@ fn word_length(line: &[u8]) -> usize
     n
 }
 
-fn same_bytes(a: &[u8], b: &[u8]) -> bool
+pub fn same_bytes(a: &[u8], b: &[u8]) -> bool
     ensures { λ r. ⌜ r ≡ sameBytes (now (a .entry)) (now (b .entry)) ⌝ }
 {
     if a.len() != b.len() {
@@ -130,7 +130,7 @@ fn digit_behind(digits: usize, value: u32, b: u8) -> Digit
 }
 
 // The numbers behind the word, which ends at `from`. A bad byte ends the reading at once.
-fn read_numbers(line: &[u8], from: usize, numbers: &mut [u32; 128]) -> Numbers
+pub fn read_numbers(line: &[u8], from: usize, numbers: &mut [u32; 128]) -> Numbers
     requires { ⌜ (length (now line) ≤ 256) × (getD (now line) from 32 ≡ 32) ⌝ }
     ensures { λ r. ⌜ (allNumbers (others (drop from (now (line .entry)))) ≡ numbersRead r (now (numbers .exit))) × (placed r ≤ length (now (numbers .exit))) ⌝ }
 {
@@ -246,12 +246,12 @@ pub fn scan(line: &[u8], numbers: &mut [u32; 128]) -> Line
 }
 
 // A number's text in decimal with the byte that ends it: it begins at `from`.
-struct Text {
+pub struct Text {
     pub bytes: [u8; 11],
     pub from: usize,
 }
 
-fn text_of(v: u32, end: u8) -> Text
+pub fn text_of(v: u32, end: u8) -> Text
     ensures { λ r. ⌜ (length (r .bytes) ≡ 11) × (r .from ≤ 10) × (drop (r .from) (r .bytes) ≡ decimal v ++ end ∷ []) ⌝ }
 {
     let mut bytes = [end; 11];
@@ -268,7 +268,7 @@ fn text_of(v: u32, end: u8) -> Text
 }
 
 // Writes `text` at `at`, and returns where it ends.
-fn put(out: &mut [u8], at: usize, text: &[u8]) -> usize
+pub fn put(out: &mut [u8], at: usize, text: &[u8]) -> usize
     requires { ⌜ at + length (now text) ≤ length (now out) ⌝ }
     ensures { λ r. ⌜ (r ≡ at + length (now (text .entry))) × (now (out .exit) ≡ spliced at (now (text .entry)) (now (out .entry))) ⌝ }
 {

@@ -22,18 +22,18 @@ abbrev pub Plain : List ℕ → Type 0
 Plain [] = Unit {0}
 Plain (b ∷ bs) = (eqb b 10 ≡ false) × Plain bs
 
-plain-more : (bs : List ℕ) (b : ℕ) → Plain bs → eqb b 10 ≡ false → Plain (bs ++ b ∷ [])
+pub plain-more : (bs : List ℕ) (b : ℕ) → Plain bs → eqb b 10 ≡ false → Plain (bs ++ b ∷ [])
 plain-more [] b p e = (e, tt)
 plain-more (x ∷ bs) b p e = (p .0, plain-more bs b (p .1) e)
 
 -- a newline ends the line that has begun
-lines-newline : (begun rest : List ℕ) (b : ℕ) → Plain begun → eqb b 10 ≡ true → lines (begun ++ b ∷ rest) ≡ begun ∷ lines rest
+pub lines-newline : (begun rest : List ℕ) (b : ℕ) → Plain begun → eqb b 10 ≡ true → lines (begun ++ b ∷ rest) ≡ begun ∷ lines rest
 unfolding lines
 lines-newline [] rest b p e = if-yes _ _ e
 lines-newline (x ∷ begun) rest b p e = if-no _ _ (p .0) ∙ ap (ontoFirst x) (lines-newline begun rest b (p .1) e)
 
 -- and so does the end of the input, where a line has begun
-lines-end : (b : ℕ) (begun : List ℕ) → Plain (b ∷ begun) → lines (b ∷ begun) ≡ (b ∷ begun) ∷ []
+pub lines-end : (b : ℕ) (begun : List ℕ) → Plain (b ∷ begun) → lines (b ∷ begun) ≡ (b ∷ begun) ∷ []
 unfolding lines
 lines-end b [] p = if-no _ _ (p .0)
 lines-end b (x ∷ begun) p = if-no _ _ (p .0) ∙ ap (ontoFirst b) (lines-end x begun (p .1))

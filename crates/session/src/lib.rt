@@ -66,6 +66,14 @@ fn answer_line(m: &mut [u8], line: &[u8], out: &mut [u8], at: usize) -> usize
     }
 }
 
+// A line that is answered and not told so: what it leaves of the tables.
+pub fn take_line(m: &mut [u8], line: &[u8])
+    ensures { λ _. ⌜ now (m .exit) ≡ respond (now (m .entry)) (now (line .entry)) .bytes ⌝ }
+{
+    let mut out = [0u8; 33];
+    answer_line(m, line, &mut out, 0);
+}
+
 // A line has ended: too long is bad.
 fn end_line(m: &mut [u8], line: &[u8], begun: usize, out: &mut [u8], at: usize) -> usize
     requires { ⌜ (length (now line) ≡ 256) × (at + 33 ≤ length (now out)) ⌝ }

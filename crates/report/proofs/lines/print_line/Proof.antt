@@ -1,0 +1,48 @@
+-- `report::lines::print_line` meets its contract: a word, the numbers, a newline.
+use mathlib.Core.List.{_∷_, []}
+use denote.Ref.{now}
+use borrow.Author.Needs.{needs}
+use Rattle.report.specs.Report.{lineText, spaced}
+use Rattle.report.proofs.Writing.{fits-1, fits-2, fits-3, three-written}
+use Rattle.report.proofs.lines.print_line.Statement.{statement}
+use Rattle.report.proofs.lines.print_line.Tie as tie
+
+put-requires : tie.Need-put-requires
+unfolding lineText
+put-requires c κs =
+    let s = c .before .before .before .before in
+    fits-1 (s .args .at) (now (s .args .out)) (now (s .args .word)) (spaced (now (s .args .ns))) (10 ∷ []) (s .pre)
+
+put-numbers-requires : tie.Need-put-numbers-requires
+unfolding lineText
+put-numbers-requires c κs =
+    let at-put = c .before .before .before in
+    let s = at-put .before .before .before .before .before in
+    fits-2 (s .args .at) (now (s .args .out)) (now (s .args .word)) (spaced (now (s .args .ns))) (10 ∷ []) (s .pre) _ _ (at-put .put .ensures)
+
+slice-aggregate-put : tie.Need-slice-aggregate-put
+slice-aggregate-put c = search needs
+
+put-requires-2 : tie.Need-put-requires-2
+unfolding lineText
+put-requires-2 c κs =
+    let at-put-numbers = c .before .before .before .before in
+    let at-put = at-put-numbers .before .before .before .before in
+    let s = at-put .before .before .before .before .before in
+    fits-3 (s .args .at) (now (s .args .out)) (now (s .args .word)) (spaced (now (s .args .ns))) (10 ∷ []) (s .pre) _ _ (at-put .put .ensures)
+    _ _ (at-put-numbers .put-numbers .ensures)
+
+same-length : tie.Need-same-length
+same-length c = search needs
+
+returns : tie.Need-returns
+unfolding lineText
+returns c =
+    let at-put-numbers = c .before .before .before .before .before .before .before in
+    let at-put = at-put-numbers .before .before .before .before in
+    let s = at-put .before .before .before .before .before in
+    three-written (s .args .at) (now (s .args .out)) (now (s .args .word)) (spaced (now (s .args .ns))) (10 ∷ []) (s .pre) _ _ (at-put .put .ensures)
+    _ _ (at-put-numbers .put-numbers .ensures) _ _ (c .before .before .put2 .ensures)
+
+pub print-line-spec : {M : Type 1} → statement M
+print-line-spec = tie.close (tie.spec put-requires put-numbers-requires slice-aggregate-put put-requires-2 same-length returns)

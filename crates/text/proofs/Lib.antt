@@ -1,0 +1,7 @@
+pub mod Saying
+pub mod Lines
+pub mod ByWord
+pub mod Events
+pub mod Bytes
+pub mod InParts
+pub mod Worked
