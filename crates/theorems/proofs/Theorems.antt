@@ -6,8 +6,10 @@ use mathlib.Core.Bool.{true, false}
 use mathlib.Core.List.{List, [], _∷_, _++_, map}
 use mathlib.Core.Logic.{_↔_, _⊎_, _≢_}
 use Prim.Native.Nat.{ℕ, _%_, _/_, _≤_, _<_}
-use lib.ListN.{length, take}
-use Rattle.words.proofs.WordsInBytes.{Bytes}
+use lib.Dec.{eqb}
+use lib.ListN.{length, take, replicate}
+use Rattle.laws.specs.Choose.{choose}
+use Rattle.words.proofs.WordsInBytes.{Bytes, Words}
 use Rattle.rules.specs.declared.Call.{Call}
 use Rattle.rules.specs.declared.Call.the-variants.{Create, Delete, Release}
 use Rattle.rules.specs.Numbers.{maxGeneration}
@@ -38,10 +40,15 @@ use Rattle.session.specs.Feeding.{Writes}
 use Rattle.session.proofs.Replay.{Feeds, code-session}
 use Rattle.session.proofs.Worked as worked
 use Rattle.sections.specs.Scripts.{Script, Grant, scriptAt, sectionAt, plain}
-use Rattle.sections.specs.Run.{Event, State, placeAt, eventOf, runFrom, openOf}
+use Rattle.sections.specs.Run.{Event, at, State, placeAt, eventOf, runFrom, openOf}
 use Rattle.sections.specs.Refusals.{Input, refusal, atFirst, run, inputFits}
 use Rattle.sections.specs.History.{answersIn, history, grantsShown}
 use Rattle.sections.proofs.Demand3 as sections
+use Rattle.encoding.specs.Rows.{scriptsOf}
+use Rattle.encoding.specs.Laid.{memory, laidPlaces, laidGrants}
+use Rattle.refusals.specs.Defined.{inputOf}
+use Rattle.runner.specs.Reply.{refusalOf, ran, runReply}
+use Rattle.runner.proofs.Demands.{ending, ending-held, lent-serial, refused-lent}
 
 -- ---- demand 1: every call is defined; a refusal changes nothing; tables that contradict themselves get 25 and no next task
 
@@ -181,3 +188,26 @@ refused-run-keeps = sections.refused-keeps
 
 pub run-in-halves : (scripts : List Script) (s : State) (a b : List Event) → runFrom scripts s (a ++ b) ≡ runFrom scripts (runFrom scripts s a) b
 run-in-halves = sections.run-halves
+
+-- the same over all that `mast_run` is lent, of any lengths and any numbers of 32 bits: `runReply` is what it promises, `ending` the state that cells, locals,
+-- places and grants then hold
+pub lent-sections-are-serial : (bs scripts events ids cells locals places grants : List ℕ) → Words scripts → Words events
+    → let reply = runReply bs scripts events ids cells locals places grants in
+    let s = ending bs scripts events ids cells locals places grants in
+    openOf (scriptsOf scripts) s ≡ [] → memory (reply .cells) (reply .locals) ≡ plain (scriptsOf scripts) (s .grants) (memory cells locals)
+lent-sections-are-serial = lent-serial
+
+pub lent-run-ends-in : (bs scripts events ids cells locals places grants : List ℕ)
+    → let reply = runReply bs scripts events ids cells locals places grants in
+    let s = ending bs scripts events ids cells locals places grants in
+    (reply .cells ≡ s .memory .cells) × (reply .locals ≡ s .memory .locals) × (reply .places ≡ laidPlaces places (s .places))
+    × (reply .grants ≡ laidGrants grants (s .grants))
+lent-run-ends-in = ending-held
+
+-- refused, no byte, cell or local changes, places are at the start and no grant is reported
+pub refused-lent-run-keeps : (bs scripts events ids cells locals places grants : List ℕ)
+    → let r = refusalOf bs (inputOf scripts ids cells locals) scripts events places in r ≢ 0
+    → runReply bs scripts events ids cells locals places grants
+    ≡ ran (record { status = r; value = 0; next = choose (eqb r 25) 0 (next (modelOf bs)) }) bs cells locals
+    (laidPlaces places (replicate (length (scriptsOf scripts)) (at 0 0))) (laidGrants grants [])
+refused-lent-run-keeps = refused-lent
