@@ -118,8 +118,8 @@ pub fn event_size(e: &[u32]) -> usize
 
 // The call of an event that is no turn.
 pub fn call_at(e: &[u32]) -> Call
-    ensures { λ r. ⌜ r ≡ callOf (getD (now (e .entry)) 0 0) (getD (now (e .entry)) 1 0) (getD (now (e .entry)) 2 0) (getD (now (e .entry)) 3 0) (getD (now (e
-        .entry)) 4 0) ⌝ }
+    ensures { λ r. ⌜ r ≡ callOf (getD (now (e .entry)) 0 0) (getD (now (e .entry)) 1 0) (getD (now (e .entry)) 2 0) (getD (now (e .entry)) 3 0)
+        (getD (now (e .entry)) 4 0) ⌝ }
 {
     call_of(
         number_at(e, 0),

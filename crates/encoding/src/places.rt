@@ -10,8 +10,8 @@ ghost use Rattle.encoding.specs.Laid.{laidPlaces, laidGrants, Answers};
 
 pub fn put_place(places: &mut [u32], i: usize, section: u32, position: u32)
     requires { ⌜ 2 * i + 1 < length (now places) ⌝ }
-    ensures { λ _. ⌜ ((ns : List ℕ) (ps : List Place) → now (places .entry) ≡ laidPlaces ns ps → i < length ps → now (places .exit) ≡ laidPlaces ns (set ps i
-        (at section position))) ⌝ }
+    ensures { λ _. ⌜ ((ns : List ℕ) (ps : List Place) → now (places .entry) ≡ laidPlaces ns ps
+        → i < length ps → now (places .exit) ≡ laidPlaces ns (set ps i (at section position))) ⌝ }
 {
     let at = 2 * i;
     places[at] = section;
@@ -30,8 +30,8 @@ pub fn put(numbers: &mut [u32], i: usize, x: u32)
 
 // One grant more, as far as there is room. Where the count has room it is the true one.
 pub fn add_grant(grants: &mut [u32], q: u32, section: u32)
-    ensures { λ _. ⌜ ((ns : List ℕ) (gs : List Grant) → now (grants .entry) ≡ laidGrants ns gs → length gs < 4294967295 → now (grants .exit) ≡ laidGrants ns
-        (gs ++ record { task = q; section = section } ∷ [])) ⌝ }
+    ensures { λ _. ⌜ ((ns : List ℕ) (gs : List Grant) → now (grants .entry) ≡ laidGrants ns gs
+        → length gs < 4294967295 → now (grants .exit) ≡ laidGrants ns (gs ++ record { task = q; section = section } ∷ [])) ⌝ }
 {
     let count = events::number_at(grants, 0);
     let at = 1 + 2 * (count as usize);

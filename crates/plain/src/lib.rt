@@ -14,8 +14,8 @@ ghost use Rattle.plain.specs.Grants.{granted, grantsOf, Tasked, Reach};
 
 // Task q takes all steps of the section at row r.
 fn steps_at(scripts: &[u32], r: usize, q: u32, cells: &mut [u32], locals: &mut [u32])
-    requires { ⌜ (r < length (now scripts) / 4) × (1 ≤ q) × (q ≤ 32) × (length (now locals) ≡ 256)
-        × Reach (length (now cells)) (stepsFrom (drop (r + 1) (rowsOf (now scripts)))) ⌝ }
+    requires { ⌜ (r < length (now scripts) / 4) × (1 ≤ q) × (q ≤ 32) × (length (now locals) ≡ 256) × Reach (length (now cells))
+        (stepsFrom (drop (r + 1) (rowsOf (now scripts)))) ⌝ }
     ensures { λ _. ⌜ memory (now (cells .exit)) (now (locals .exit)) ≡ doSteps q (stepsFrom (drop (r + 1) (rowsOf (now (scripts .entry)))))
         (memory (now (cells .entry)) (now (locals .entry))) ⌝ }
 {

@@ -12,11 +12,13 @@ use Rattle.sections.specs.Refusals.{Input, limitsFit, stepsFit, oneScriptEach, 
 use Rattle.encoding.specs.Rows.{scriptsOf, rowsFit}
 use Rattle.encoding.specs.Events.{eventsOf}
 use Rattle.encoding.specs.Laid.{memory}
+use Rattle.refusals.specs.Tests.{inputWith}
 
 abbrev pub inputOf : List ℕ → List ℕ → List ℕ → List ℕ → Input
-inputOf scripts ids cells locals = record { scripts = scriptsOf scripts; ids = ids; memory = memory cells locals }
+inputOf scripts ids cells locals = inputWith scripts ids (memory cells locals)
 
--- the rule for lengths: whole rows, each where it may stand, room for a place of each script, and numbers of events that a count can hold
+-- the rule for lengths: whole rows, each where it may stand, room for a place of each script, and numbers of events that a count can hold; how many
+-- identifiers and locals there are is among the limits
 unfoldable pub lengthsFit : List ℕ → List ℕ → List ℕ → Bool
 lengthsFit scripts events places =
     rowsFit scripts and leb (2 * length (scriptsOf scripts)) (length places) and leb (length events) maxNumber

@@ -7,14 +7,19 @@ use lib.ListN.{length, getD}
 use Rattle.laws.specs.Choose.{choose, _and_}
 use Rattle.laws.specs.All.{all}
 use Rattle.rules.specs.Machine.{Tables}
-use Rattle.sections.specs.Scripts.{Section, Script}
+use Rattle.sections.specs.Scripts.{Section, Script, Memory}
 use Rattle.sections.specs.Scripts.Step.{NoStep}
 use Rattle.sections.specs.Refusals.{Input, isStep, isGuard}
 use Rattle.encoding.specs.Rows.{scriptsOf}
+use Rattle.encoding.specs.Laid.{memory}
+
+-- scripts in rows, with the identifiers of the cells and with the memory
+abbrev pub inputWith : List ℕ → List ℕ → Memory → Input
+inputWith ns ids m = record { scripts = scriptsOf ns; ids = ids; memory = m }
 
 -- for tests that look at scripts alone
 abbrev pub scriptsAlone : List ℕ → Input
-scriptsAlone ns = record { scripts = scriptsOf ns; ids = []; memory = record { cells = []; locals = [] } }
+scriptsAlone ns = inputWith ns [] (memory [] [])
 
 abbrev pub isShort : Script → Bool
 isShort s = leb (length (s .sections)) 8

@@ -14,6 +14,7 @@ ghost use Rattle.sections.specs.Refusals.{refusal};
 ghost use Rattle.encoding.specs.Rows.{scriptsOf, rowsFit};
 ghost use Rattle.encoding.specs.Events.{eventsOf};
 ghost use Rattle.refusals.specs.Defined.{inputOf, lengthsFit, isDefined, isPermitted, refusalWhere};
+ghost use Rattle.refusals.specs.Tests.{inputWith};
 
 const MAX_CELLS: usize = 64;
 
@@ -42,8 +43,8 @@ fn is_defined(
     locals: &[u32],
 ) -> bool
     requires { ⌜ Sized (now m) × (rowsFit (now scripts) ≡ true) ⌝ }
-    ensures { λ r. ⌜ r ≡ isDefined (modelOf (now (m .entry))) (inputOf (now (scripts .entry)) (now (ids .entry)) (now (cells .entry)) (now (locals .entry)))
-        (eventsOf (now (events .entry))) ⌝ }
+    ensures { λ r. ⌜ r ≡ isDefined (modelOf (now (m .entry)))
+        (inputOf (now (scripts .entry)) (now (ids .entry)) (now (cells .entry)) (now (locals .entry))) (eventsOf (now (events .entry))) ⌝ }
 {
     if MAX_CELLS < cells.len() {
         return false;
@@ -69,12 +70,8 @@ fn is_defined(
 // 4: whether every script's task is ready, and every event is allowed.
 fn is_permitted(m: &[u8], scripts: &[u32], events: &[u32]) -> bool
     requires { ⌜ Sized (now m) ⌝ }
-    ensures { λ r. ⌜ ((ids : List ℕ) (memory : Memory) → r ≡ isPermitted (modelOf (now (m .entry))) (record {
-      scripts = scriptsOf (now (scripts .entry));
-      ids =
-          ids;
-      memory = memory;
-    }) (eventsOf (now (events .entry)))) ⌝ }
+    ensures { λ r. ⌜ ((ids : List ℕ) (memory : Memory) → r ≡ isPermitted (modelOf (now (m .entry))) (inputWith (now (scripts .entry)) ids memory)
+        (eventsOf (now (events .entry)))) ⌝ }
 {
     if !tests::are_scripts_ready(m, scripts) {
         return false;
@@ -92,8 +89,8 @@ fn first_refusal(
     locals: &[u32],
 ) -> u32
     requires { ⌜ Agreeing (now m) × (rowsFit (now scripts) ≡ true) ⌝ }
-    ensures { λ r. ⌜ r ≡ refusal (modelOf (now (m .entry))) (inputOf (now (scripts .entry)) (now (ids .entry)) (now (cells .entry)) (now (locals .entry)))
-        (eventsOf (now (events .entry))) ⌝ }
+    ensures { λ r. ⌜ r ≡ refusal (modelOf (now (m .entry)))
+        (inputOf (now (scripts .entry)) (now (ids .entry)) (now (cells .entry)) (now (locals .entry))) (eventsOf (now (events .entry))) ⌝ }
 {
     let defined = is_defined(m, scripts, events, ids, cells, locals);
     let permitted = is_permitted(m, scripts, events);
@@ -117,8 +114,9 @@ pub fn refusal(
     places: &[u32],
 ) -> u32
     requires { ⌜ Agreeing (now m) ⌝ }
-    ensures { λ r. ⌜ r ≡ refusalWhere (modelOf (now (m .entry))) (inputOf (now (scripts .entry)) (now (ids .entry)) (now (cells .entry)) (now (locals .entry)))
-        (now (scripts .entry)) (now (events .entry)) (now (places .entry)) ⌝ }
+    ensures { λ r. ⌜ r ≡ refusalWhere (modelOf (now (m .entry)))
+        (inputOf (now (scripts .entry)) (now (ids .entry)) (now (cells .entry)) (now (locals .entry))) (now (scripts .entry)) (now (events .entry))
+        (now (places .entry)) ⌝ }
 {
     if are_lengths_fit(scripts, events, places) {
         return first_refusal(m, scripts, events, ids, cells, locals);

@@ -17,7 +17,7 @@ ghost use Rattle.sections.specs.Scripts.Step.{NoStep};
 ghost use Rattle.sections.specs.Refusals.{eachScript, eachSection, eachEvent, isEvent, isCell, isStep, isGuard, isReady, hasScript, isAllowed, oneScriptEach};
 ghost use Rattle.encoding.specs.Rows.{rowAt, rowsOf, beginsScript, beginsSection, stepOf, stepsFrom, sectionOf, scriptOf, scriptsOf, rowFits, rowsFit};
 ghost use Rattle.encoding.specs.Events.{eventSize, eventAt, eventsOf};
-ghost use Rattle.refusals.specs.Tests.{scriptsAlone, isShort, sectionFits};
+ghost use Rattle.refusals.specs.Tests.{inputWith, scriptsAlone, isShort, sectionFits};
 
 const MAX_SECTIONS: usize = 8;
 
@@ -64,8 +64,8 @@ pub fn are_rows_fit(scripts: &[u32]) -> bool
 
 fn is_script_short(scripts: &[u32], r: usize) -> bool
     requires { ⌜ r < length (now scripts) / 4 ⌝ }
-    ensures { λ x. ⌜ x ≡ when (beginsScript (rowAt (now (scripts .entry)) r)) (isShort (scriptOf (rowAt (now (scripts .entry)) r) (drop (r + 1) (rowsOf (now
-        (scripts .entry)))))) ⌝ }
+    ensures { λ x. ⌜ x ≡ when (beginsScript (rowAt (now (scripts .entry)) r))
+        (isShort (scriptOf (rowAt (now (scripts .entry)) r) (drop (r + 1) (rowsOf (now (scripts .entry)))))) ⌝ }
 {
     let row = rows::row_at(scripts, r);
     if row.kind == rows::SCRIPT {
@@ -129,8 +129,8 @@ fn is_step_fit(ids: &[u32], id: u32, row: Row) -> bool
 
 // 11: whether the steps from a row on are steps of a section with that identifier.
 fn are_steps_fit(scripts: &[u32], ids: &[u32], from: usize, id: u32) -> bool
-    ensures { λ r. ⌜ r ≡ all (length (stepsFrom (drop from (rowsOf (now (scripts .entry)))))) (λ k. isStep (now (ids .entry)) id (getD (stepsFrom (drop from
-        (rowsOf (now (scripts .entry))))) k NoStep)) ⌝ }
+    ensures { λ r. ⌜ r ≡ all (length (stepsFrom (drop from (rowsOf (now (scripts .entry))))))
+        (λ k. isStep (now (ids .entry)) id (getD (stepsFrom (drop from (rowsOf (now (scripts .entry))))) k NoStep)) ⌝ }
 {
     let n = rows::step_count(scripts, from);
     let mut k = 0;
@@ -161,8 +161,8 @@ fn is_guard(m: &[u8], id: u32) -> bool
 
 fn is_section_fit(m: &[u8], scripts: &[u32], ids: &[u32], r: usize) -> bool
     requires { ⌜ Sized (now m) × (r < length (now scripts) / 4) ⌝ }
-    ensures { λ x. ⌜ x ≡ when (beginsSection (rowAt (now (scripts .entry)) r)) (sectionFits (modelOf (now (m .entry))) (now (ids .entry)) (sectionOf (rowAt
-        (now (scripts .entry)) r) (drop (r + 1) (rowsOf (now (scripts .entry)))))) ⌝ }
+    ensures { λ x. ⌜ x ≡ when (beginsSection (rowAt (now (scripts .entry)) r)) (sectionFits (modelOf (now (m .entry))) (now (ids .entry))
+        (sectionOf (rowAt (now (scripts .entry)) r) (drop (r + 1) (rowsOf (now (scripts .entry)))))) ⌝ }
 {
     let row = rows::row_at(scripts, r);
     if row.kind != rows::SECTION {
@@ -275,8 +275,7 @@ fn has_script(scripts: &[u32], q: u32) -> bool
 // 4: whether an event is a turn of a task with a script, or no script task's call.
 fn is_allowed(scripts: &[u32], e: &[u32]) -> bool
     requires { ⌜ 1 ≤ eventSize (now e) ⌝ }
-    ensures { λ r. ⌜ ((ids : List ℕ) (memory : Memory) → r ≡ isAllowed (record { scripts = scriptsOf (now (scripts .entry)); ids = ids; memory = memory })
-        (eventAt (now (e .entry)))) ⌝ }
+    ensures { λ r. ⌜ ((ids : List ℕ) (memory : Memory) → r ≡ isAllowed (inputWith (now (scripts .entry)) ids memory) (eventAt (now (e .entry)))) ⌝ }
 {
     if events::number_at(e, 0) == events::TURN {
         return has_script(scripts, events::number_at(e, 1));
@@ -288,12 +287,8 @@ fn is_allowed(scripts: &[u32], e: &[u32]) -> bool
 
 // 4: whether every event is allowed.
 pub fn are_allowed(scripts: &[u32], events: &[u32]) -> bool
-    ensures { λ r. ⌜ ((ids : List ℕ) (memory : Memory) → r ≡ eachEvent (eventsOf (now (events .entry))) (isAllowed (record {
-      scripts = scriptsOf (now (scripts
-          .entry));
-      ids = ids;
-      memory = memory;
-    }))) ⌝ }
+    ensures { λ r. ⌜ ((ids : List ℕ) (memory : Memory) → r ≡ eachEvent (eventsOf (now (events .entry)))
+        (isAllowed (inputWith (now (scripts .entry)) ids memory))) ⌝ }
 {
     let mut at = 0;
     while at < events.len() {

@@ -31,12 +31,11 @@ fn run_agreeing(
 ) -> u32
     requires { ⌜ Agreeing (now m) ⌝ }
     ensures status { λ r. ⌜ r ≡ refusalWhere (modelOf (now (m .entry)))
-        (inputOf (now (scripts .entry)) (now (ids .entry)) (now (cells .entry)) (now (locals .entry)))
-        (now (scripts .entry)) (now (events .entry)) (now (places .entry)) ⌝ }
-    ensures done { λ r. ⌜ ((places₀ grants₀ : List ℕ)
-        → now (places .entry) ≡ laidPlaces places₀ (replicate (length (scriptsOf (now (scripts .entry)))) (at 0 0))
-        → now (grants .entry) ≡ laidGrants grants₀ []
-        → Stands places₀ grants₀ (ranFrom r (modelOf (now (m .entry)))
+        (inputOf (now (scripts .entry)) (now (ids .entry)) (now (cells .entry)) (now (locals .entry))) (now (scripts .entry)) (now (events .entry))
+        (now (places .entry)) ⌝ }
+    ensures done { λ r. ⌜ ((places₀ grants₀ : List ℕ) → now (places .entry) ≡ laidPlaces places₀
+        (replicate (length (scriptsOf (now (scripts .entry)))) (at 0 0))
+        → now (grants .entry) ≡ laidGrants grants₀ [] → Stands places₀ grants₀ (ranFrom r (modelOf (now (m .entry)))
         (inputOf (now (scripts .entry)) (now (ids .entry)) (now (cells .entry)) (now (locals .entry))) (eventsOf (now (events .entry))))
         (now (m .exit)) (now (cells .exit)) (now (locals .exit)) (now (places .exit)) (now (grants .exit))) ⌝ }
     ensures kept { λ _. ⌜ Agreeing (now (m .exit)) ⌝ }
@@ -59,8 +58,8 @@ pub fn run(
     places: &mut [u32],
     grants: &mut [u32],
 ) -> Answer
-    ensures { λ r. ⌜ ran r (now (m .exit)) (now (cells .exit)) (now (locals .exit)) (now (places .exit)) (now (grants .exit))
-        ≡ runReply (now (m .entry)) (now (scripts .entry)) (now (events .entry)) (now (ids .entry)) (now (cells .entry)) (now (locals .entry))
+    ensures { λ r. ⌜ ran r (now (m .exit)) (now (cells .exit)) (now (locals .exit)) (now (places .exit)) (now (grants .exit)) ≡ runReply
+        (now (m .entry)) (now (scripts .entry)) (now (events .entry)) (now (ids .entry)) (now (cells .entry)) (now (locals .entry))
         (now (places .entry)) (now (grants .entry)) ⌝ }
 {
     encoding::outset::clear(scripts, places, grants);

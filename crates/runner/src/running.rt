@@ -26,12 +26,15 @@ fn event(
     places: &mut [u32],
     grants: &mut [u32],
 )
-    requires { ⌜ Agreeing (now m) × Lent (now scripts) (now places) (now grants) × Stepped (now scripts) (length (now cells)) × (length (now locals) ≡ 256) ×
-        (1 ≤ eventSize (now e)) × (getD (now e) 0 0 ≡ 1 → indexOf (getD (now e) 1 0) (scriptsOf (now scripts)) < length (scriptsOf (now scripts))) ⌝ }
-    ensures done { λ _. ⌜ ((places₀ grants₀ : List ℕ) (s : State) → Stands places₀ grants₀ s (now (m .entry)) (now (cells .entry)) (now (locals .entry)) (now
-        (places .entry)) (now (grants .entry)) → length (s .places) ≡ length (scriptsOf (now (scripts .entry))) → RoomAt (scriptsOf (now (scripts .entry))) s
-        (eventAt (now (e .entry))) → Stands places₀ grants₀ (eventOf (scriptsOf (now (scripts .entry))) s (eventAt (now (e .entry)))) (now (m .exit)) (now
-        (cells .exit)) (now (locals .exit)) (now (places .exit)) (now (grants .exit))) ⌝ }
+    requires { ⌜ Agreeing (now m) × Lent (now scripts) (now places) (now grants) × Stepped (now scripts) (length (now cells)) ×
+        (length (now locals) ≡ 256) × (1 ≤ eventSize (now e)) × (getD (now e) 0 0 ≡ 1
+        → indexOf (getD (now e) 1 0) (scriptsOf (now scripts)) < length (scriptsOf (now scripts))) ⌝ }
+    ensures done { λ _. ⌜ ((places₀ grants₀ : List ℕ) (s : State) → Stands places₀ grants₀ s (now (m .entry)) (now (cells .entry))
+        (now (locals .entry)) (now (places .entry)) (now (grants .entry))
+        → length (s .places) ≡ length (scriptsOf (now (scripts .entry)))
+        → RoomAt (scriptsOf (now (scripts .entry))) s (eventAt (now (e .entry)))
+        → Stands places₀ grants₀ (eventOf (scriptsOf (now (scripts .entry))) s (eventAt (now (e .entry)))) (now (m .exit)) (now (cells .exit))
+        (now (locals .exit)) (now (places .exit)) (now (grants .exit))) ⌝ }
     ensures kept { λ _. ⌜ Agreeing (now (m .exit)) ⌝ }
 {
     if events::number_at(e, 0) == events::TURN {
@@ -61,12 +64,13 @@ pub fn run_events(
     places: &mut [u32],
     grants: &mut [u32],
 )
-    requires { ⌜ Agreeing (now m) × Lent (now scripts) (now places) (now grants) × Stepped (now scripts) (length (now cells)) × (length (now locals) ≡ 256) ×
-        (eachEvent (eventsOf (now events)) (isRun (scriptsOf (now scripts))) ≡ true) ⌝ }
-    ensures done { λ _. ⌜ ((places₀ grants₀ : List ℕ) (s : State) → Stands places₀ grants₀ s (now (m .entry)) (now (cells .entry)) (now (locals .entry)) (now
-        (places .entry)) (now (grants .entry)) → RoomAlong (scriptsOf (now (scripts .entry))) s (eventsOf (now (events .entry))) → Stands places₀ grants₀
-        (runFrom (scriptsOf (now (scripts .entry))) s (eventsOf (now (events .entry)))) (now (m .exit)) (now (cells .exit)) (now (locals .exit)) (now (places
-        .exit)) (now (grants .exit))) ⌝ }
+    requires { ⌜ Agreeing (now m) × Lent (now scripts) (now places) (now grants) × Stepped (now scripts) (length (now cells)) ×
+        (length (now locals) ≡ 256) × (eachEvent (eventsOf (now events)) (isRun (scriptsOf (now scripts))) ≡ true) ⌝ }
+    ensures done { λ _. ⌜ ((places₀ grants₀ : List ℕ) (s : State) → Stands places₀ grants₀ s (now (m .entry)) (now (cells .entry))
+        (now (locals .entry)) (now (places .entry)) (now (grants .entry))
+        → RoomAlong (scriptsOf (now (scripts .entry))) s (eventsOf (now (events .entry)))
+        → Stands places₀ grants₀ (runFrom (scriptsOf (now (scripts .entry))) s (eventsOf (now (events .entry)))) (now (m .exit)) (now (cells .exit))
+        (now (locals .exit)) (now (places .exit)) (now (grants .exit))) ⌝ }
     ensures kept { λ _. ⌜ Agreeing (now (m .exit)) ⌝ }
 {
     let mut at = 0;

@@ -63,8 +63,8 @@ fn settle(
     grants: &mut [u32],
 )
     requires { ⌜ (length (now m) ≡ tablesLength) × Lent (now scripts) (now places) (now grants) ⌝ }
-    ensures { λ _. ⌜ ((t : Tables) → now (m .entry) ≡ laid t → Settles (now (scripts .entry)) (now (places .entry)) (now (grants .entry)) (λ i. told waited t
-        obtainer status (scriptAt (scriptsOf (now (scripts .entry))) i .task)) (now (places .exit)) (now (grants .exit))) ⌝ }
+    ensures { λ _. ⌜ ((t : Tables) → now (m .entry) ≡ laid t → Settles (now (scripts .entry)) (now (places .entry)) (now (grants .entry))
+        (λ i. told waited t obtainer status (scriptAt (scriptsOf (now (scripts .entry))) i .task)) (now (places .exit)) (now (grants .exit))) ⌝ }
 {
     let n = rows::row_count(scripts);
     let mut i = 0;
@@ -112,8 +112,8 @@ pub fn make_call(
     grants: &mut [u32],
 )
     requires { ⌜ Agreeing (now m) × Lent (now scripts) (now places) (now grants) ⌝ }
-    ensures noted { λ _. ⌜ Called (now (scripts .entry)) (record { call = call; priorities = now (priorities .entry) }) (now (m .entry)) (now (places .entry))
-        (now (grants .entry)) (now (m .exit)) (now (places .exit)) (now (grants .exit)) ⌝ }
+    ensures noted { λ _. ⌜ Called (now (scripts .entry)) (record { call = call; priorities = now (priorities .entry) }) (now (m .entry))
+        (now (places .entry)) (now (grants .entry)) (now (m .exit)) (now (places .exit)) (now (grants .exit)) ⌝ }
     ensures kept { λ _. ⌜ Agreeing (now (m .exit)) ⌝ }
 {
     let waited = who_waits(m);

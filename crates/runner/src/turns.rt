@@ -39,8 +39,8 @@ pub enum Act {
 // In the section at row r: the obtain, one step, or the release.
 fn act_in(scripts: &[u32], r: usize, q: u32, section: u32, position: u32) -> Act
     requires { ⌜ r < length (now scripts) / 4 ⌝ }
-    ensures { λ a. ⌜ (section < 4294967295 → length (stepsFrom (drop (r + 1) (rowsOf (now (scripts .entry))))) < 4294967295 → actFrom a ≡ doingIn q (sectionOf
-        (rowAt (now (scripts .entry)) r) (drop (r + 1) (rowsOf (now (scripts .entry))))) (at section position)) ⌝ }
+    ensures { λ a. ⌜ (section < 4294967295 → length (stepsFrom (drop (r + 1) (rowsOf (now (scripts .entry))))) < 4294967295
+        → actFrom a ≡ doingIn q (sectionOf (rowAt (now (scripts .entry)) r) (drop (r + 1) (rowsOf (now (scripts .entry))))) (at section position)) ⌝ }
 {
     let row = rows::row_at(scripts, r);
     if position == 0 {
@@ -76,8 +76,9 @@ fn act_in(scripts: &[u32], r: usize, q: u32, section: u32, position: u32) -> Act
 // What a turn of task q does, whose sections stand from a row on and whose place is the i-th.
 fn act_of(m: &[u8], scripts: &[u32], from: usize, places: &[u32], i: usize, q: u32) -> Act
     requires { ⌜ (length (now m) ≡ tablesLength) × (1 ≤ q) × (q ≤ 32) × (2 * i + 1 < length (now places)) ⌝ }
-    ensures { λ a. ⌜ ((t : Tables) → now (m .entry) ≡ laid t → Countable (sectionsFrom (drop from (rowsOf (now (scripts .entry))))) → actFrom a ≡ doingAt t q
-        (sectionsFrom (drop from (rowsOf (now (scripts .entry))))) (at (getD (now (places .entry)) (2 * i) 0) (getD (now (places .entry)) (2 * i + 1) 0))) ⌝ }
+    ensures { λ a. ⌜ ((t : Tables) → now (m .entry) ≡ laid t → Countable (sectionsFrom (drop from (rowsOf (now (scripts .entry)))))
+        → actFrom a ≡ doingAt t q (sectionsFrom (drop from (rowsOf (now (scripts .entry)))))
+        (at (getD (now (places .entry)) (2 * i) 0) (getD (now (places .entry)) (2 * i + 1) 0))) ⌝ }
 {
     let v = tables::load_task(m, q as usize - 1);
     if settle::is_waiting(v) {
@@ -105,8 +106,8 @@ fn call_at(
     grants: &mut [u32],
 )
     requires { ⌜ Agreeing (now m) × Lent (now scripts) (now places) (now grants) × (2 * i + 1 < length (now places)) ⌝ }
-    ensures done { λ _. ⌜ CallsAt (now (scripts .entry)) i call (at section position) (now (m .entry)) (now (places .entry)) (now (grants .entry)) (now (m
-        .exit)) (now (places .exit)) (now (grants .exit)) ⌝ }
+    ensures done { λ _. ⌜ CallsAt (now (scripts .entry)) i call (at section position) (now (m .entry)) (now (places .entry)) (now (grants .entry))
+        (now (m .exit)) (now (places .exit)) (now (grants .exit)) ⌝ }
     ensures kept { λ _. ⌜ Agreeing (now (m .exit)) ⌝ }
 {
     places::put_place(places, i, section, position);
@@ -126,8 +127,8 @@ fn step_at(
 )
     requires { ⌜ (1 ≤ q) × (q ≤ 32) × (length (now locals) ≡ 256) × (reaches (length (now cells)) (stepOf row) ≡ true) × (2 * i + 1 < length (now places)) ⌝ }
     ensures done { λ _. ⌜ memory (now (cells .exit)) (now (locals .exit)) ≡ doStep q (stepOf row) (memory (now (cells .entry)) (now (locals .entry))) ⌝ }
-    ensures moves { λ _. ⌜ ((ns : List ℕ) (ps : List Place) → now (places .entry) ≡ laidPlaces ns ps → i < length ps → now (places .exit) ≡ laidPlaces ns (set
-        ps i (at section position))) ⌝ }
+    ensures moves { λ _. ⌜ ((ns : List ℕ) (ps : List Place) → now (places .entry) ≡ laidPlaces ns ps
+        → i < length ps → now (places .exit) ≡ laidPlaces ns (set ps i (at section position))) ⌝ }
 {
     memory::do_step(cells, locals, q, row);
     places::put_place(places, i, section, position);
@@ -145,12 +146,14 @@ fn do_act(
     places: &mut [u32],
     grants: &mut [u32],
 )
-    requires { ⌜ Agreeing (now m) × Lent (now scripts) (now places) (now grants) × (1 ≤ q) × (q ≤ 32) × (length (now locals) ≡ 256) × (actReaches (length (now
-        cells)) (actFrom a) ≡ true) × (2 * i + 1 < length (now places)) ⌝ }
-    ensures done { λ _. ⌜ ((places₀ grants₀ : List ℕ) (s : State) → Stands places₀ grants₀ s (now (m .entry)) (now (cells .entry)) (now (locals .entry)) (now
-        (places .entry)) (now (grants .entry)) → i < length (s .places) → scriptAt (scriptsOf (now (scripts .entry))) i .task ≡ q → RoomToAct (scriptsOf (now
-        (scripts .entry))) s i (actFrom a) → Stands places₀ grants₀ (acted (scriptsOf (now (scripts .entry))) s i (actFrom a)) (now (m .exit)) (now (cells
-        .exit)) (now (locals .exit)) (now (places .exit)) (now (grants .exit))) ⌝ }
+    requires { ⌜ Agreeing (now m) × Lent (now scripts) (now places) (now grants) × (1 ≤ q) × (q ≤ 32) × (length (now locals) ≡ 256) ×
+        (actReaches (length (now cells)) (actFrom a) ≡ true) × (2 * i + 1 < length (now places)) ⌝ }
+    ensures done { λ _. ⌜ ((places₀ grants₀ : List ℕ) (s : State) → Stands places₀ grants₀ s (now (m .entry)) (now (cells .entry))
+        (now (locals .entry)) (now (places .entry)) (now (grants .entry))
+        → i < length (s .places) → scriptAt (scriptsOf (now (scripts .entry))) i .task ≡ q
+        → RoomToAct (scriptsOf (now (scripts .entry))) s i (actFrom a) → Stands places₀ grants₀
+        (acted (scriptsOf (now (scripts .entry))) s i (actFrom a)) (now (m .exit)) (now (cells .exit)) (now (locals .exit)) (now (places .exit))
+        (now (grants .exit))) ⌝ }
     ensures kept { λ _. ⌜ Agreeing (now (m .exit)) ⌝ }
 {
     match a {
@@ -178,13 +181,15 @@ pub fn turn(
     places: &mut [u32],
     grants: &mut [u32],
 )
-    requires { ⌜ Agreeing (now m) × Lent (now scripts) (now places) (now grants) × Stepped (now scripts) (length (now cells)) × (length (now locals) ≡ 256) ×
-        (indexOf q (scriptsOf (now scripts)) < length (scriptsOf (now scripts))) ⌝ }
-    ensures done { λ _. ⌜ ((places₀ grants₀ : List ℕ) (s : State) → Stands places₀ grants₀ s (now (m .entry)) (now (cells .entry)) (now (locals .entry)) (now
-        (places .entry)) (now (grants .entry)) → length (s .places) ≡ length (scriptsOf (now (scripts .entry))) → RoomToAct (scriptsOf (now (scripts .entry)))
-        s (indexOf q (scriptsOf (now (scripts .entry)))) (actOf (scriptsOf (now (scripts .entry))) s (indexOf q (scriptsOf (now (scripts .entry))))) → Stands
-        places₀ grants₀ (eventOf (scriptsOf (now (scripts .entry))) s (Turn q)) (now (m .exit)) (now (cells .exit)) (now (locals .exit)) (now (places .exit))
-        (now (grants .exit))) ⌝ }
+    requires { ⌜ Agreeing (now m) × Lent (now scripts) (now places) (now grants) × Stepped (now scripts) (length (now cells)) ×
+        (length (now locals) ≡ 256) × (indexOf q (scriptsOf (now scripts)) < length (scriptsOf (now scripts))) ⌝ }
+    ensures done { λ _. ⌜ ((places₀ grants₀ : List ℕ) (s : State) → Stands places₀ grants₀ s (now (m .entry)) (now (cells .entry))
+        (now (locals .entry)) (now (places .entry)) (now (grants .entry))
+        → length (s .places) ≡ length (scriptsOf (now (scripts .entry)))
+        → RoomToAct (scriptsOf (now (scripts .entry))) s (indexOf q (scriptsOf (now (scripts .entry))))
+        (actOf (scriptsOf (now (scripts .entry))) s (indexOf q (scriptsOf (now (scripts .entry)))))
+        → Stands places₀ grants₀ (eventOf (scriptsOf (now (scripts .entry))) s (Turn q)) (now (m .exit)) (now (cells .exit)) (now (locals .exit))
+        (now (places .exit)) (now (grants .exit))) ⌝ }
     ensures kept { λ _. ⌜ Agreeing (now (m .exit)) ⌝ }
 {
     let found = rows::script_of(scripts, q);
