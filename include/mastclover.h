@@ -19,6 +19,12 @@
  * Tasks are numbered 1 to N in the order of their priorities at start, N at most 32. Priority 1 is
  * the most urgent, 255 the least. A task is ready, or waits on one semaphore.
  *
+ * Equals. Of ready tasks of one priority the one that has been ready longest goes first. The tables
+ * keep the ready tasks in a sequence: 1 to N at start; a task that begins to wait leaves it, and one
+ * whose wait ends joins its end. mast_delete and mast_flush wake in the order of the queue, mast_tick
+ * in the order of the tasks' numbers. A call that begins or ends no wait moves nobody, so a task that
+ * polls keeps its turn.
+ *
  * Callers. `caller` is the number of the task that makes the call. An interrupt is caller 0; it may
  * call mast_release and mast_flush. mast_start, mast_ident, mast_tick, mast_task and mast_run have
  * no caller and may be called from anywhere. A call must not be interrupted by another one on the same
@@ -45,7 +51,10 @@
  *     words 130 to 2689   forty for each of 64 slots: generation, live (0 or 1), name, attributes,
  *                         count, owner, nest, queue length, and 32 of the queue (task numbers, the
  *                         first to be served first)
- * What lies beyond N, S or a queue's length is 0, and so is a free slot but for its generation.
+ *     word 2690           how many tasks are ready
+ *     words 2691 to 2722  the sequence of the ready tasks (task numbers, the longest ready first)
+ * What lies beyond N, S or the length of a queue or the sequence is 0, and so is a free slot but for
+ * its generation.
  * Every call tests the whole of the tables first: MAST_INTERNAL_ERROR says that the memory has
  * another length, or that a number is out of its limits or contradicts another, so something else
  * wrote to it. The call has then changed nothing.
@@ -61,7 +70,7 @@ extern "C" {
 #endif
 
 /* The length in bytes of the tables; no other length is accepted. */
-#define MAST_TABLES_LENGTH 10760
+#define MAST_TABLES_LENGTH 10892
 
 /* The limits of mast_start. */
 #define MAST_MAXIMUM_TASKS 32
@@ -115,8 +124,8 @@ typedef uint32_t mast_name;
 
 /*
  * What every call gives back. `value` is 0 unless a call says otherwise. `next` is the task to run:
- * of the ready tasks the most urgent, among equals the one with the lowest number, or 0 if no task
- * is ready. With MAST_INTERNAL_ERROR both are 0.
+ * of the ready tasks the most urgent, among equals the one that has been ready longest, or 0 if no
+ * task is ready. With MAST_INTERNAL_ERROR both are 0.
  */
 typedef struct {
     mast_status status;
@@ -131,7 +140,8 @@ typedef struct {
 
 /*
  * Starts the machine with `slots` semaphore slots (1 to 64) and `count` tasks (1 to 32), whose
- * priorities (1 to 255) `priorities` points to: the first is task 1's. All tasks are ready.
+ * priorities (1 to 255) `priorities` points to: the first is task 1's. All tasks are ready, in the
+ * sequence of their numbers.
  * `priorities` may be NULL only when `count` is 0; it must not overlap the tables. To start afresh,
  * set all bytes to 0 first.
  *
@@ -173,8 +183,8 @@ mast_answer mast_create(uint8_t *tables, size_t length, uint32_t caller, mast_na
 mast_answer mast_ident(const uint8_t *tables, size_t length, mast_name name);
 
 /*
- * Deletes a semaphore. All its waiters become ready with answer MAST_OBJECT_WAS_DELETED. Not from
- * an interrupt.
+ * Deletes a semaphore. All its waiters become ready with answer MAST_OBJECT_WAS_DELETED, in the order
+ * of the queue. Not from an interrupt.
  *
  *   MAST_INTERNAL_ERROR    the tables are damaged or have the wrong length
  *   MAST_CALLED_FROM_ISR   caller 0
@@ -221,8 +231,8 @@ mast_answer mast_obtain(uint8_t *tables, size_t length, uint32_t caller, mast_id
 mast_answer mast_release(uint8_t *tables, size_t length, uint32_t caller, mast_id id);
 
 /*
- * Wakes all waiters of a semaphore with answer MAST_UNSATISFIED. Its count, owner and nest stay.
- * Also from an interrupt, as caller 0.
+ * Wakes all waiters of a semaphore with answer MAST_UNSATISFIED, in the order of the queue. Its
+ * count, owner and nest stay. Also from an interrupt, as caller 0.
  *
  *   MAST_INTERNAL_ERROR    the tables are damaged or have the wrong length
  *   MAST_INVALID_ID        no such caller
@@ -234,7 +244,8 @@ mast_answer mast_flush(uint8_t *tables, size_t length, uint32_t caller, mast_id 
 
 /*
  * One tick of the clock, usually from its interrupt. Every wait with a timeout loses one tick; one
- * that had a single tick left ends with answer MAST_TIMEOUT.
+ * that had a single tick left ends with answer MAST_TIMEOUT. If several end, they end in the order of
+ * the tasks' numbers.
  *
  *   MAST_INTERNAL_ERROR    the tables are damaged or have the wrong length
  *   MAST_SUCCESSFUL

@@ -1,7 +1,7 @@
 /*
- * mastrecords.h - for firmware that keeps its tasks' records itself: the next task of a list of them,
- * and a task woken where its record stands. Link with libmastrecords.a (`make records`), which needs
- * nothing else; statuses are those of mastclover.h.
+ * mastrecords.h - for firmware that keeps its tasks' records itself: the next task of a list of them
+ * and their sequence, and a task woken where its record stands. Link with libmastrecords.a
+ * (`make records`), which needs nothing else; statuses are those of mastclover.h.
  */
 #ifndef MASTRECORDS_H
 #define MASTRECORDS_H
@@ -22,15 +22,21 @@ typedef struct {
 } mast_task_record;
 
 /*
- * The task to run: of the ready ones the most urgent, among equals the lowest, or 0 if none is ready.
- * Tasks are counted from 1, and there may be any number of them. A task whose priority is above 255
- * is never chosen. `tasks` may be NULL only when `count` is 0.
+ * The task to run: of the ready ones the most urgent, among equals the one that stands first in
+ * `ready`, or 0 if there is none. `ready` is the sequence of the ready tasks' numbers, the longest
+ * ready first, which you keep: take a task out when it begins to wait, and put it at the end when its
+ * wait ends. Tasks are counted from 1, and there may be any number of them. A number in `ready` that is
+ * no task's, 0 or above `count`, is passed over; a task that is not in `ready`, or whose priority is
+ * above 255, is never chosen. `ready` alone says who is ready: the records' answers are not looked at.
+ * `tasks` may be NULL only when `count` is 0, `ready` only when `ready_count` is.
  */
-size_t mast_next_task(const mast_task_record *tasks, size_t count);
+uint32_t mast_next_task(const mast_task_record *tasks, size_t count, const uint32_t *ready,
+                        size_t ready_count);
 
 /*
- * Ends the wait of one task: it is ready with this answer and waits on nothing. Its priority stays.
- * `task` is not NULL.
+ * Ends the wait of one task: its record gets this answer, one of the endings of a wait (0, 6, 7 or 13),
+ * and waits on nothing. Its priority stays. Put its number at the end of your `ready` then: until it
+ * stands there, mast_next_task does not choose it. `task` is not NULL.
  */
 void mast_wake_task(mast_task_record *task, uint32_t answer);
 

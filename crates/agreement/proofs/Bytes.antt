@@ -1,11 +1,11 @@
--- The two passes over lent bytes, and the whole test: its parts in the order of the code.
+-- The passes over lent bytes, and the whole test: its parts in the order of the code.
 use mathlib.Core.Path.{_≡_, refl, ap, ap₂, sym, subst, _∙_}
 use mathlib.Core.List.{List}
 use mathlib.Core.Bool.{Bool, true, false}
 use Prim.Native.Nat.{ℕ, suc, pred, _+_, _≤_, _<_}
 use native.Mathlib.Omega.{arith}
 use native.Mathlib.Numerals.{add-one}
-use lib.ListN.{length, getD}
+use lib.ListN.{getD}
 use borrow.Author.Tests.{leb-true, eqb-true}
 use Rattle.laws.specs.Choose.{_and_}
 use Rattle.laws.proofs.Choose.{never, and-both}
@@ -22,9 +22,9 @@ use Rattle.tables.specs.Layout.{taskPlace, slotPlace, taskAt, recordAt, modelOf
 use Rattle.tables.specs.Sizes.{Bounded}
 use Rattle.tables.proofs.LayoutRead.{task-below, record-below}
 use Rattle.lookup.proofs.Model.{length-tasks, length-slots, task-read, slot-read}
-use Rattle.agreement.specs.Tests.{slotAgrees, taskAgrees, seenWith, seenBelow, SlotsTested, slotsAgree, tasksAgree}
+use Rattle.agreement.specs.Tests.{slotAgrees, taskAgrees, seenWith, seenBelow, SlotsTested, slotsAgree, seenAll, tasksAgree}
 use Rattle.agreement.specs.Bytes.{agreesBytes}
-use Rattle.agreement.proofs.Passes.{Narrow, agrees-passes}
+use Rattle.agreement.proofs.Passes.{Narrow, sequencePasses, agrees-passes}
 
 -- ---- the passes
 
@@ -57,15 +57,18 @@ module _ (bs : List ℕ) where
   abbrev pub taskPasses : List Bool → ℕ → Bool
   taskPasses seen i = taskAgrees (getD seen i false) (taskOf (modelOf bs) (suc i))
 
-  pub tasks-tested : (seen : List Bool) → seen ≡ seenBelow (modelOf bs) (length (modelOf bs .slots))
-      → all (wordAt bs 0) (taskPasses seen) ≡ tasksAgree (modelOf bs)
+  pub tasks-tested : (seen : List Bool) → seen ≡ seenAll (modelOf bs) → all (wordAt bs 0) (taskPasses seen) ≡ tasksAgree (modelOf bs)
   unfolding tasksAgree
   tasks-tested seen e = ap₂ (λ (n : ℕ) (seen : List Bool). all n (taskPasses seen)) (sym (length-tasks bs)) e
 
 -- ---- the whole
 
+-- the passes over the model
+abbrev pub passes : List ℕ → Bool
+passes bs = slotsAgree (modelOf bs) and sequencePasses (modelOf bs) and tasksAgree (modelOf bs)
+
 abbrev pub bytesTests : List ℕ → Bool
-bytesTests bs = isLaid bs and countsFit (wordAt bs 0) (wordAt bs 1) and slotsAgree (modelOf bs) and tasksAgree (modelOf bs)
+bytesTests bs = isLaid bs and countsFit (wordAt bs 0) (wordAt bs 1) and passes bs
 
 record NarrowTask (v : Task) : Type 0 where
   awaited : v .awaited ≤ maxNumber
@@ -110,4 +113,4 @@ module _ (bs : List ℕ) (b : Bytes bs) where
   bytes-tested =
       let sizes = ap₂ countsFit (sym (length-tasks bs)) (sym (length-slots bs)) in
       ap (λ (a : Bool). isLaid bs and a)
-      (ap (λ (a : Bool). a and slotsAgree (modelOf bs) and tasksAgree (modelOf bs)) sizes ∙ agrees-passes (modelOf bs) narrow)
+      (ap (λ (a : Bool). a and passes bs) sizes ∙ agrees-passes (modelOf bs) narrow)

@@ -1,4 +1,4 @@
--- The tests of a queue's places, and what they say of how often a task stands in it.
+-- The tests of the places of a queue and of the sequence of ready tasks, and what they say of how often a task stands in it.
 use mathlib.Core.Path.{_≡_, refl, ap, sym, subst, _∙_}
 use mathlib.Core.Bool.{Bool, true, false}
 use mathlib.Core.List.{List, [], _∷_}
@@ -6,17 +6,18 @@ use mathlib.Core.Logic.{⊎-elim}
 use Prim.Native.Nat.{ℕ, zero, suc, pred, _+_, _≤_, _<_}
 use native.Mathlib.Omega.{arith}
 use native.Mathlib.Nat.{not-suc-le-zero}
+use native.Mathlib.Decide.{decLt}
 use lib.Dec.{eqb}
 use lib.ListN.{length, getD}
 use borrow.Author.Tests.{leb-true, eqb-true, eqb-false, eq-eqb, ne-eqb, le-leb}
 use Rattle.laws.specs.Choose.{isnt, bit}
-use Rattle.laws.proofs.Choose.{tested, if-yes, and-both, both-and, when-then, then-when, isnt-false, false-isnt}
+use Rattle.laws.proofs.Choose.{tested, never, if-yes, and-both, both-and, when-then, then-when, isnt-false, false-isnt}
 use Rattle.rules.specs.Numbers.{byPriority}
 use Rattle.rules.specs.Machine.{Slot, Tables, taskOf, urgency}
-use Rattle.rules.specs.Agreement.{occurs, isWaiter}
+use Rattle.rules.specs.Agreement.{occurs, isWaiter, isReadyTask}
 use Rattle.rules.proofs.Invariants.Lists.{bit-yes, bit-no, bit-same, occurs-none, occurs-cons, occurs-at, occurs-not}
-use Rattle.agreement.specs.Tests.{seenAt, urgencyBefore, entryAgrees}
-use Rattle.agreement.proofs.Marks.{seen-made}
+use Rattle.agreement.specs.Tests.{seenAt, urgencyBefore, entryAgrees, placeAgrees}
+use Rattle.agreement.proofs.Marks.{Place, seen-made, seen-from}
 
 -- ---- how often
 
@@ -63,6 +64,42 @@ occurs-found q (x ∷ xs) h =
     record { place = suc (f .place); within = omega (arith, f .within); is = f .is })
     (tested (eqb q x))
 
+-- ---- marks: a number that is new at each of its places stands at one
+
+module _ (seen : List Bool) (xs : List ℕ) where
+  module _
+      (within : (k : ℕ) → k < length xs → pred (getD xs k 0) < length seen)
+      (fresh : (k : ℕ) → k < length xs → getD (seenAt seen xs k) (pred (getD xs k 0)) false ≡ false)
+    where
+      -- where it stands first it is marked
+      first : (j k : ℕ) → j < k → k < length xs → getD xs j 0 ≡ getD xs k 0 → ⊥
+      first j k b h same =
+          let marked = seen-made seen xs k j b (within j (omega arith)) in
+          never (subst (λ (q : ℕ). getD (seenAt seen xs k) (pred q) false ≡ true) same marked) (fresh k h)
+
+      pub fresh-once : (k : ℕ) → k < length xs → occurs (getD xs k 0) xs ≡ 1
+      fresh-once k h = occurs-once xs k h same
+        where
+          same : (j : ℕ) → j < length xs → getD xs j 0 ≡ getD xs k 0 → j ≡ k
+          same j b q =
+              elim (decLt j k) [
+                | yes p ↦ absurd (first j k p h q)
+                | no p ↦ elim (decLt k j) [ yes r ↦ absurd (first k j r b (sym q)) | no r ↦ omega arith ]
+              ]
+
+  -- and back, where it was not marked before
+  module _ (least : (k : ℕ) → k < length xs → 1 ≤ getD xs k 0) (k : ℕ) (h : k < length xs) (most : occurs (getD xs k 0) xs ≤ 1) where
+    here : Place xs k (pred (getD xs k 0)) → ⊥
+    here p =
+        let same : getD xs (p .place) 0 ≡ getD xs k 0 = omega (arith, p .is, least k h, least (p .place) (omega (arith, p .within))) in
+        omega (arith, occurs-twice xs (p .place) k (p .within) h same, most)
+
+    pub once-fresh : (getD seen (pred (getD xs k 0)) false ≡ true → ⊥) → getD (seenAt seen xs k) (pred (getD xs k 0)) false ≡ false
+    once-fresh before =
+        ⊎-elim (λ (m : getD (seenAt seen xs k) (pred (getD xs k 0)) false ≡ true). absurd (⊎-elim before here (seen-from seen xs k _ m)))
+        (λ (n : getD (seenAt seen xs k) (pred (getD xs k 0)) false ≡ false). n)
+        (tested (getD (seenAt seen xs k) (pred (getD xs k 0)) false))
+
 -- ---- the test of a place
 
 pub record EntryFits (t : Tables) (seen : List Bool) (id : ℕ) (s : Slot) (k : ℕ) : Type 0 where
@@ -94,3 +131,18 @@ module _ (t : Tables) (seen : List Bool) (id : ℕ) (s : Slot) (k : ℕ) where
       let turn = and-both _ _ (waiter .1) in
       both-and (both-and (waiter .0) (false-isnt _ (ne-eqb _ _ (f .apart))))
       (both-and (both-and (turn .0) (both-and (turn .1) (then-when _ _ (λ b. le-leb _ _ (f .ordered b))))) (false-isnt _ (f .fresh)))
+
+-- ---- and of a place of the sequence
+
+pub record PlaceFits (t : Tables) (seen : List Bool) (k : ℕ) : Type 0 where
+  pub ready : isReadyTask t (getD (t .ready) k 0) ≡ true
+  pub fresh : getD (seenAt seen (t .ready) k) (pred (getD (t .ready) k 0)) false ≡ false
+
+module _ (t : Tables) (seen : List Bool) (k : ℕ) where
+  pub place-fits : placeAgrees t seen k ≡ true → PlaceFits t seen k
+  unfolding placeAgrees
+  place-fits e = let f = and-both _ _ e in record { ready = f .0; fresh = isnt-false _ (f .1) }
+
+  pub fits-place : PlaceFits t seen k → placeAgrees t seen k ≡ true
+  unfolding placeAgrees
+  fits-place f = both-and (f .ready) (false-isnt _ (f .fresh))

@@ -3,6 +3,7 @@ pub mod Entries
 pub mod Passes
 pub mod Cases
 pub mod Queues
+pub mod Sequence
 pub mod Slots
 pub mod Model
 pub mod Bytes

@@ -1,4 +1,5 @@
--- The marks of the tasks that stand in queues: who is marked stands in a live slot's queue, and who stands in one is marked.
+-- The marks of the tasks that stand in a list of numbers, a queue or the sequence of ready tasks, and in the queues of all live slots:
+-- who is marked stands in one, and who stands in one is marked.
 use mathlib.Core.Path.{_≡_, refl, ap, sym, subst, _∙_}
 use mathlib.Core.Bool.{Bool, true, false}
 use mathlib.Core.List.{List}
@@ -27,7 +28,7 @@ entryOf t j k = getD (queueOf t j) k 0
 mark-kept : (l : List Bool) (i p : ℕ) → getD l p false ≡ true → getD (set l i true) p false ≡ true
 mark-kept l i p e = set-cases (λ (b : Bool). b ≡ true) l i p true false (λ s. refl) e
 
--- ---- of one queue
+-- ---- of one queue, or of the sequence
 
 -- a place before n whose task has the mark p
 pub record Place (queue : List ℕ) (n p : ℕ) : Type 0 where
@@ -41,7 +42,7 @@ module _ (seen : List Bool) (queue : List ℕ) where
   length-seen zero = refl
   length-seen (suc k) = length-set (seenAt seen queue k) _ true ∙ length-seen k
 
-  seen-kept : (k p : ℕ) → getD seen p false ≡ true → getD (seenAt seen queue k) p false ≡ true
+  pub seen-kept : (k p : ℕ) → getD seen p false ≡ true → getD (seenAt seen queue k) p false ≡ true
   unfolding seenAt
   seen-kept zero p e = e
   seen-kept (suc k) p e = mark-kept (seenAt seen queue k) _ p (seen-kept k p e)

@@ -1,4 +1,5 @@
--- The test for 25 in the order of the code: one pass over the slots, which marks the tasks that stand in queues, and one over the tasks.
+-- The test for 25 in the order of the code: one pass over the slots and one over the sequence of ready tasks, which mark the tasks that stand in them,
+-- and one over the tasks.
 -- What is asked of a task or a slot is cited from crates/rules/specs/Agreement.antt.
 use mathlib.Core.Path.{_≡_}
 use mathlib.Core.Bool.{Bool, true, false}
@@ -12,7 +13,7 @@ use Rattle.rules.specs.declared.Task.{Task}
 use Rattle.rules.specs.Numbers.{maxPriority, maxGeneration, within, allowed, byPriority, isBinary}
 use Rattle.rules.specs.Machine.{Slot, Tables, taskOf, slotOf, waits, isLive, idOf, urgency}
 use Rattle.rules.specs.Semaphore.{requeued}
-use Rattle.rules.specs.Agreement.{isEnding, isAtRest, isWaiter, isNamedRight, isZeroWhereQueued, isBinaryRight, isOtherRight, isClear}
+use Rattle.rules.specs.Agreement.{isEnding, isAtRest, isWaiter, isReadyTask, isNamedRight, isZeroWhereQueued, isBinaryRight, isOtherRight, isClear}
 
 -- what a pass answers and leaves: the marks are told where the test holds
 pub record Marked (agrees : Bool) (after : List Bool) (r : Bool) (seen : List Bool) : Type 0 where
@@ -77,7 +78,7 @@ SlotTested t seen n s r after = Marked (slotAgrees t seen n s) (seenWith seen s)
 -- ---- a task, and whether it is marked
 
 unfoldable pub taskAgrees : Bool → Task → Bool
-taskAgrees seen v = within 1 maxPriority (v .priority) and choose (waits v) seen (isEnding (v .answer) and isAtRest v)
+taskAgrees seen v = within 1 maxPriority (v .priority) and seen and when (isnt (waits v)) (isEnding (v .answer) and isAtRest v)
 
 -- ---- the tables
 
@@ -92,5 +93,20 @@ slotsAgree t = all (length (t .slots)) (λ i. slotAgrees t (seenBelow t i) (suc 
 abbrev pub SlotsTested : Tables → Bool → List Bool → Type 0
 SlotsTested t r after = Marked (slotsAgree t) (seenBelow t (length (t .slots))) r after
 
+-- the place k of the sequence: a ready task, which stands at no place before it
+unfoldable pub placeAgrees : Tables → List Bool → ℕ → Bool
+placeAgrees t seen k =
+    isReadyTask t (getD (t .ready) k 0) and isnt (getD (seenAt seen (t .ready) k) (pred (getD (t .ready) k 0)) false)
+
+unfoldable pub sequenceAgrees : Tables → List Bool → Bool
+sequenceAgrees t seen = all (length (t .ready)) (placeAgrees t seen)
+
+abbrev pub SequenceTested : Tables → List Bool → Bool → List Bool → Type 0
+SequenceTested t seen r after = Marked (sequenceAgrees t seen) (seenAt seen (t .ready) (length (t .ready))) r after
+
+-- the marks of all slots and of the sequence
+abbrev pub seenAll : Tables → List Bool
+seenAll t = seenAt (seenBelow t (length (t .slots))) (t .ready) (length (t .ready))
+
 unfoldable pub tasksAgree : Tables → Bool
-tasksAgree t = all (length (t .tasks)) (λ i. taskAgrees (getD (seenBelow t (length (t .slots))) i false) (taskOf t (suc i)))
+tasksAgree t = all (length (t .tasks)) (λ i. taskAgrees (getD (seenAll t) i false) (taskOf t (suc i)))

@@ -12,7 +12,8 @@ ghost use Rattle.rules.specs.Machine.{slotOf};
 ghost use Rattle.rules.specs.Agreement.{countsFit, isEnding, isAtRest, isZeroWhereQueued, isBinaryRight, isOtherRight, isClear};
 ghost use Rattle.tables.specs.Layout.{headOf, slotWith, recordAt, modelOf};
 ghost use Rattle.tables.specs.Sizes.{Bounded};
-ghost use Rattle.agreement.specs.Tests.{isApart, isInTurn, QueueTested, classAgrees, headAgrees, SlotTested, taskAgrees, seenBelow, SlotsTested, tasksAgree};
+ghost use Rattle.agreement.specs.Tests.{isApart, isInTurn, QueueTested, classAgrees, headAgrees, SlotTested, taskAgrees, seenBelow, SlotsTested};
+ghost use Rattle.agreement.specs.Tests.{SequenceTested, seenAll, tasksAgree};
 ghost use Rattle.agreement.specs.Bytes.{agreesBytes};
 
 // ---- a slot
@@ -213,6 +214,35 @@ fn are_slots_agreeing(m: &[u8], seen: &mut [bool; 32]) -> bool
     true
 }
 
+// ---- the sequence of ready tasks
+
+// Each of its tasks is ready and is marked, and none twice.
+fn is_sequence_agreeing(m: &[u8], seen: &mut [bool; 32]) -> bool
+    requires { ⌜ Bounded (now m) ⌝ }
+    ensures { λ r. ⌜ SequenceTested (modelOf (now (m .entry))) (now (seen .entry)) r (now (seen .exit)) ⌝ }
+{
+    let tasks = tables::task_count(m);
+    let ready = tables::ready_count(m) as usize;
+    let mut k = 0;
+    while k < ready {
+        let q = tables::ready_entry(m, k);
+        if !is_apart(tasks, 0, q) {
+            return false;
+        }
+        let i = (q - 1) as usize;
+        let v = tables::load_task(m, i);
+        if v.answer == rules::WAITING {
+            return false;
+        }
+        if seen[i] {
+            return false;
+        }
+        seen[i] = true;
+        k += 1;
+    }
+    true
+}
+
 // ---- a task
 
 // An answer that a ready task may have.
@@ -243,7 +273,7 @@ fn is_ready(v: Task) -> bool
     v.awaited == 0
 }
 
-// A task that waits stands in a queue, where it was marked.
+// A task stands in a queue or in the sequence, where it was marked.
 fn is_task_agreeing(seen: bool, v: Task) -> bool
     ensures { λ r. ⌜ r ≡ taskAgrees seen v ⌝ }
 {
@@ -253,14 +283,17 @@ fn is_task_agreeing(seen: bool, v: Task) -> bool
     if rules::MAX_PRIORITY < v.priority {
         return false;
     }
+    if !seen {
+        return false;
+    }
     if v.answer == rules::WAITING {
-        return seen;
+        return true;
     }
     is_ready(v)
 }
 
 fn are_tasks_agreeing(m: &[u8], seen: &[bool; 32]) -> bool
-    requires { ⌜ Bounded (now m) × (now seen ≡ seenBelow (modelOf (now m)) (length (modelOf (now m) .slots))) ⌝ }
+    requires { ⌜ Bounded (now m) × (now seen ≡ seenAll (modelOf (now m))) ⌝ }
     ensures { λ r. ⌜ r ≡ tasksAgree (modelOf (now (m .entry))) ⌝ }
 {
     let tasks = tables::task_count(m) as usize;
@@ -305,6 +338,9 @@ pub fn is_agreeing(m: &[u8]) -> bool
     }
     let mut seen = [false; 32];
     if !are_slots_agreeing(m, &mut seen) {
+        return false;
+    }
+    if !is_sequence_agreeing(m, &mut seen) {
         return false;
     }
     are_tasks_agreeing(m, &seen)

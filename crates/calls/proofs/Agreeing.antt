@@ -11,6 +11,7 @@ use lib.ListN.{length, getD, List·getD-eq-default}
 use borrow.Author.Tests.{eqb-true, leb-true}
 use Rattle.laws.specs.Choose.{_or_}
 use Rattle.laws.proofs.Choose.{tested, or-either, and-both, if-yes}
+use Rattle.words.specs.Words.{wordAt}
 use Rattle.words.proofs.WordsInBytes.{Bytes, Words}
 use Rattle.rules.specs.declared.Call.{Call}
 use Rattle.rules.specs.Numbers.{allowed, isBinary}
@@ -24,9 +25,9 @@ use Rattle.rules.proofs.Invariants.Agreeing.{agrees-true, sizes-within}
 use Rattle.rules.proofs.Invariants.Room as room
 use Rattle.rules.proofs.Invariants.Kept.{kept}
 use Rattle.tables.specs.Codec.{taskRow, slotRow}
-use Rattle.tables.specs.Layout.{laid, modelOf}
+use Rattle.tables.specs.Layout.{readyPlace, laid, modelOf}
 use Rattle.tables.specs.Sizes.{Sized, Holds}
-use Rattle.tables.proofs.LayoutRead.{length-laid, modelOf-laid}
+use Rattle.tables.proofs.LayoutRead.{length-laid, laid-ready, modelOf-laid}
 use Rattle.tables.proofs.LayoutHolds.{holds-rows, laid-bytes, task-row-words, slot-row-words}
 use Rattle.lookup.proofs.Model.{length-tasks, length-slots}
 use Rattle.calls.specs.Agreeing.{Agreeing}
@@ -113,8 +114,22 @@ module _ (t : Tables) (a : Agrees t) where
       slot-row-words (nthSlot t j) (omega (arith, f .generation)) (omega (arith, f .live)) (omega (arith, f .name)) (omega (arith, class-few j))
       (omega (arith, f .count)) (omega (arith, owner-few j)) (omega (arith, f .nest)) (queue-few j) (queue-words j)
 
+  -- the sequence of ready tasks is within its places, and its entries are tasks
+  pub ready-few : length (t .ready) ≤ 32
+  ready-few = omega (arith, tasks-few, room.ready-few t facts)
+
+  pub ready-tasks : (k : ℕ) → k < length (t .ready) → (1 ≤ getD (t .ready) k 0) × (getD (t .ready) k 0 ≤ length (t .tasks))
+  ready-tasks = room.ready-entry t facts
+
+  ready-words : Words (t .ready)
+  ready-words k =
+      elim (decLt k (length (t .ready))) [
+        | yes h ↦ omega (arith, ready-tasks k h .1, tasks-few)
+        | no n ↦ let h : length (t .ready) ≤ k = omega arith in omega (arith, List·getD-eq-default (t .ready) 0 h)
+      ]
+
   pub agrees-holds : Holds t
-  agrees-holds = holds-rows t tasks-few slots-few (λ j h. queue-few j) task-words slot-words
+  agrees-holds = holds-rows t tasks-few slots-few ready-few (λ j h. queue-few j) task-words slot-words ready-words
 
   -- so the tables read back from their layout
   pub modelOf-agrees : modelOf (laid t) ≡ t
@@ -137,7 +152,11 @@ sized {bs} g =
       long = ap length (g .same) ∙ length-laid (modelOf bs);
       tasks = omega (arith, length-tasks bs, tasks-few (modelOf bs) (g .agrees));
       slots = omega (arith, length-slots bs, slots-few (modelOf bs) (g .agrees));
+      ready = omega (arith, ready-is, ready-few (modelOf bs) (g .agrees));
     }
+  where
+    ready-is : wordAt bs readyPlace ≡ length (modelOf bs .ready)
+    ready-is = ap (λ (x : List ℕ). wordAt x readyPlace) (g .same) ∙ laid-ready (modelOf bs) (agrees-holds (modelOf bs) (g .agrees))
 
 -- a call keeps agreement, so that the next one needs no test
 pub agrees-after : {bs : List ℕ} → Agreeing bs → (call : Call) (priorities : List ℕ) → callFits call ≡ true

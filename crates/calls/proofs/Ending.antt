@@ -2,7 +2,7 @@
 use mathlib.Core.Path.{_≡_, refl, sym, ap, _∙_}
 use mathlib.Core.Bool.{Bool, true, false}
 use mathlib.Core.List.{List}
-use Prim.Native.Nat.{ℕ, _≤_, _<_}
+use Prim.Native.Nat.{ℕ, _+_, _≤_, _<_}
 use native.Mathlib.Omega.{arith}
 use lib.Dec.{eqb}
 use lib.ListN.{length, getD, take}
@@ -19,7 +19,7 @@ use Rattle.tables.specs.Layout.{laid}
 use Rattle.calls.specs.declared.enter.Entered.{Entered}
 use Rattle.calls.specs.Entered.{Found, Enters}
 use Rattle.calls.proofs.Doing.{unless-refused, unless-done}
-use Rattle.calls.proofs.Entering.{task-first, any-first, entry-refused, entry-passed, waiter-tasks}
+use Rattle.calls.proofs.Entering.{task-first, any-first, entry-refused, entry-passed, waiter-tasks, ready-room}
 
 -- slot n as it is without waiters, and then they are woken with that answer
 abbrev pub emptied : Tables → ℕ → Slot → ℕ → Tables
@@ -27,11 +27,11 @@ emptied t n slot answer = wakeAll (putSlot t n slot) (slotOf t n .queue) answer
 
 pub emptied-laid : {t : Tables} → Agrees t → {id n : ℕ} {s : Semaphore} → Found t id n s → (slot : Slot) (answer : ℕ) {bs₁ bs₂ : List ℕ}
     → bs₁ ≡ laid (putSlot t n slot)
-    → ((t : Tables) → bs₁ ≡ laid t → ((k : ℕ) → k < s .waiters → getD (s .queue) k 0 ≤ length (t .tasks))
+    → ((t : Tables) → bs₁ ≡ laid t → ((k : ℕ) → k < s .waiters → getD (s .queue) k 0 ≤ length (t .tasks)) → length (t .ready) + s .waiters ≤ 32
     → bs₂ ≡ laid (wakeAll t (take (s .waiters) (s .queue)) answer))
     → bs₂ ≡ laid (emptied t n slot answer)
 emptied-laid {t} a {n = n} f slot answer stored woken =
-    woken (putSlot t n slot) stored (λ k h. waiter-tasks a f k h .1)
+    woken (putSlot t n slot) stored (λ k h. waiter-tasks a f k h .1) (ready-room a f)
     ∙ ap (λ (y : Slot). laid (wakeAll (putSlot t n slot) (y .queue) answer)) (f .stands .same)
 
 abbrev pub owned : Slot → Bool

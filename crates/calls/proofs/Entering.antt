@@ -3,7 +3,7 @@ use mathlib.Core.Path.{_≡_, sym, subst, ap, _∙_}
 use mathlib.Core.Bool.{true, false}
 use mathlib.Core.List.{List, [], _∷_}
 use mathlib.Core.Logic.{⊎-elim}
-use Prim.Native.Nat.{ℕ, suc, pred, _-_, _≤_, _<_}
+use Prim.Native.Nat.{ℕ, suc, pred, _+_, _-_, _≤_, _<_}
 use native.Mathlib.Numerals.{sub-one}
 use native.Mathlib.Omega.{arith}
 use lib.Dec.{eqb}
@@ -18,7 +18,7 @@ use Rattle.rules.specs.Agreement.{Agrees}
 use Rattle.rules.specs.Calls.{Outcome, refused, unless, taskOnly, anyCaller}
 use Rattle.rules.proofs.Invariants.Facts.{SlotFits, Unheld, Held}
 use Rattle.rules.proofs.Invariants.FromTests.{agrees-facts}
-use Rattle.rules.proofs.Invariants.Room.{queue-room}
+use Rattle.rules.proofs.Invariants.Room.{queue-room, queue-joins}
 use Rattle.rules.proofs.Invariants.Refusals.{Caller, found}
 use Rattle.semaphore.specs.declared.Semaphore.{Semaphore}
 use Rattle.semaphore.specs.Record.{slotFrom, Stands}
@@ -127,6 +127,10 @@ module _ {t : Tables} (a : Agrees t) {id n : ℕ} {s : Semaphore} (f : Found t i
         queue-room t (agrees-facts t a) (pred n) (f .live) (pred caller)
             (omega (arith, who .first, who .last)) (who .ready),
       )
+
+  -- and in the sequence of ready tasks for all who wait
+  pub ready-room : length (t .ready) + s .waiters ≤ 32
+  ready-room = omega (arith, waiters-are (f .stands), tasks-few t a, queue-joins t (agrees-facts t a) (pred n) (f .live))
 
   pub count-within : s .count ≤ maximum (s .attributes)
   count-within =

@@ -14,6 +14,8 @@ use Rattle.rules.specs.Numbers.{within}
 use Rattle.rules.specs.Machine.{Tables, unstarted, slotOf, putSlot}
 use Rattle.rules.specs.Agreement.{Agrees, sizesFit}
 use Rattle.rules.specs.Calls.{Outcome, answered, refused, startRefusal, started, start, openSlot, createRefusal, newSemaphore, create}
+use Rattle.rules.proofs.Invariants.FromTests.{agrees-facts}
+use Rattle.rules.proofs.Invariants.Room.{ready-few}
 use Rattle.rules.proofs.Invariants.Refusals.{must, mustnt}
 use Rattle.rules.proofs.Searching.{Hit, isOpen}
 use Rattle.rules.proofs.History.Passed.{create-passed}
@@ -25,7 +27,7 @@ length-none : {A : Type 0} (xs : List A) → length xs ≡ 0 → xs ≡ []
 length-none [] e = refl
 length-none (x ∷ xs) e = absurd (omega arith)
 
--- agreeing tables without tasks have no slots either
+-- agreeing tables without tasks have no slots and no ready tasks either
 pub not-started : (t : Tables) → Agrees t → length (t .tasks) ≡ 0 → t ≡ unstarted
 unfolding sizesFit
 not-started t a z =
@@ -34,7 +36,8 @@ not-started t a z =
     (λ e. absurd (omega (arith, leb-true 1 (length (t .tasks)) (and-both _ _ (and-both _ _ e .0) .0))))
     (or-either _ _ (a .sizes))
     in
-    λ k. record { tasks = length-none (t .tasks) z k; slots = length-none (t .slots) none k }
+    let idle : length (t .ready) ≡ 0 = omega (arith, ready-few t (agrees-facts t a)) in
+    λ k. record { tasks = length-none (t .tasks) z k; slots = length-none (t .slots) none k; ready = length-none (t .ready) idle k }
 
 -- what a start that is not refused has checked
 pub record Startable (t : Tables) (slots : ℕ) (priorities : List ℕ) : Type 0 where

@@ -1,5 +1,5 @@
 -- What release answers and leaves.
-use mathlib.Core.Path.{_≡_, sym, subst, ap, _∙_}
+use mathlib.Core.Path.{_≡_, refl, sym, subst, ap, _∙_}
 use Prim.Native.Nat.{ℕ, pred, _≤_, _<_}
 use native.Mathlib.Omega.{arith}
 use lib.Dec.{leb, eqb}
@@ -18,7 +18,7 @@ use Rattle.calls.specs.declared.enter.Entered.{Entered}
 use Rattle.calls.specs.Entered.{Enters}
 use Rattle.calls.proofs.Agreeing.{entry-tasks}
 use Rattle.calls.proofs.Doing.{unless-refused, unless-done}
-use Rattle.calls.proofs.Entering.{any-first, entry-refused, entry-passed}
+use Rattle.calls.proofs.Entering.{any-first, entry-refused, entry-passed, waiters-are, ready-room}
 
 -- a release wakes nobody, or the first of the queue
 woken-within : (s : Slot) (caller N : ℕ) → ((k : ℕ) → k < length (s .queue) → getD (s .queue) k 0 ≤ N) → giveStep s caller .woken ≤ N
@@ -31,6 +31,18 @@ woken-within s caller N h =
   where
     P : Given → Type 0
     P g = g .woken ≤ N
+
+-- and wakes somebody only out of a queue
+woken-queued : (s : Slot) (caller : ℕ) → (giveStep s caller .woken ≡ 0 → ⊥) → 1 ≤ length (s .queue)
+unfolding giveStep passStep
+woken-queued s caller =
+    choose-cases P (isBinary (s .attributes) and isnt (ownedBy s caller)) _ _ (λ e n. absurd (n refl))
+    (λ e. choose-cases P (isBinary (s .attributes) and leb 2 (s .nest)) _ _ (λ e n. absurd (n refl))
+    (λ e. choose-cases P (leb 1 (length (s .queue))) _ _ (λ q n. leb-true 1 (length (s .queue)) q)
+    (λ e. choose-cases P (eqb (s .count) (maximum (s .attributes))) _ _ (λ e n. absurd (n refl)) (λ e n. absurd (n refl)))))
+  where
+    P : Given → Type 0
+    P g = (g .woken ≡ 0 → ⊥) → 1 ≤ length (s .queue)
 
 -- the tables after a release from slot n that woke nobody, and after one that woke a task
 abbrev pub returned : Tables → ℕ → ℕ → Tables
@@ -65,6 +77,16 @@ module _ {t : Tables} (caller : ℕ) {x id : ℕ} {r : Entered} (is : x ≡ anyC
     pub woken-tasks : Agrees t → g .woken ≤ length (t .tasks)
     woken-tasks a =
         omega (arith, given-slot .woken, woken-within (slotOf t (r .slot)) caller (length (t .tasks)) (λ k h. entry-tasks t a (pred (r .slot)) k h .1))
+
+    -- there is room in the sequence for a task that is woken
+    pub woken-room : Agrees t → (g .woken ≡ 0 → ⊥) → length (t .ready) < 32
+    woken-room a n =
+        omega (
+          arith,
+          ready-room a (e .found z),
+          waiters-are (e .found z .stands),
+          woken-queued (slotOf t (r .slot)) caller (λ w. n (given-slot .woken ∙ w)),
+        )
 
     module _ (granted : g .status ≡ 0) where
       passed : release t caller id ≡ done (r .slot)

@@ -56,6 +56,6 @@ pub fn obtain(m: &mut [u8], caller: u32, id: u32, wait: Wait) -> Done
     }
     let v = tables::load_task(m, caller as usize - 1);
     let waiter = blocked(v, id, ticks_of(wait));
-    changes::put_task(m, caller, waiter);
+    changes::begin_wait(m, caller, waiter);
     Done(rules::WAITING, 0)
 }

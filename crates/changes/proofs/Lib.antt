@@ -1,3 +1,5 @@
 pub mod PutWakeStart
+pub mod Leaving
+pub mod Joining
 pub mod Ticks
 pub mod TickSlots

@@ -1,7 +1,7 @@
 -- A tick through all slots, one after another, and the whole tick.
-use mathlib.Core.Path.{_≡_, sym, ap, _∙_}
+use mathlib.Core.Path.{_≡_, sym, ap, ap₂, _∙_}
 use mathlib.Core.Bool.{Bool, false}
-use mathlib.Core.List.{List, [], map}
+use mathlib.Core.List.{List, [], _++_, map}
 use Prim.Native.Nat.{ℕ, suc, pred, _+_, _≤_, _<_}
 use native.Mathlib.Numerals.{add-one}
 use native.Mathlib.Decide.{decLt}
@@ -13,18 +13,19 @@ use Rattle.laws.proofs.Fit.{length-fit, getD-fit}
 use Rattle.words.specs.Words.{wordAt}
 use Rattle.words.proofs.WordsInBytes.{Bytes}
 use Rattle.rules.specs.declared.Task.{Task}
-use Rattle.rules.specs.Machine.{Slot, Tables, withTasks, withSlots, noTask, freeSlot, taskOf, slotOf, putSlot}
+use Rattle.rules.specs.Machine.{Slot, Tables, withTasks, withSlots, withReady, noTask, freeSlot, taskOf, slotOf, putSlot}
 use Rattle.rules.specs.Semaphore.{requeued}
-use Rattle.rules.specs.Calls.{expires, ticked, tickedSlot}
+use Rattle.rules.specs.Calls.{expires, ticked, tickedSlot, timedOut, tickedTables}
 use Rattle.semaphore.specs.declared.Semaphore.{Semaphore}
 use Rattle.semaphore.specs.Record.{recordOf, Padded, TasksOnly, slotKeeping}
 use Rattle.semaphore.proofs.Queue.{length-keep, keep-waiting}
 use Rattle.tables.specs.Layout.{tablesLength, laid, recordAt}
 use Rattle.tables.proofs.LayoutRead.{laid-words, limited-holds, record-padded, count-laid, record-laid, laid-slots, length-laid}
 use Rattle.tables.specs.Sizes.{Limited}
-use Rattle.changes.specs.Tick.{waitersIn, TaskQueues, expiring, tickedTables}
+use Rattle.changes.specs.Tick.{waitersIn, TaskQueues, expiring, flagged}
 use Rattle.laws.proofs.Mapped.{mapped, length-mapped, mapped-at, mapped-next, mapped-all, mapped-keeps}
 use Rattle.changes.proofs.Ticks.{flag-of, slotTicked}
+use Rattle.changes.proofs.Joining.{expiring-timed-out}
 
 -- with the first i slots gone through
 abbrev pub keptUpTo : List Bool → Tables → ℕ → Tables
@@ -41,6 +42,7 @@ module _ (expired : List Bool) where
       record {
         tasks = h .tasks;
         slots = omega (arith, h .slots);
+        ready = h .ready;
         queues =
             λ j l.
             mapped-keeps (λ s. slotKeeping s expired) (λ s. length (s .queue) ≤ 32) (λ s k. omega (arith, length-keep expired (s .queue))) i (t .slots) j
@@ -142,9 +144,13 @@ module _ (m₀ m₁ : List ℕ) (expired : List Bool) (flags : (t : Tables) → 
       let e : m₁ ≡ laid t′ = slots t (q .same) (q .limited) in
       omega (arith, ap (λ (x : List ℕ). wordAt x 0) e, count-laid t′ (laid-words t′ (rw e at b)), q .limited .tasks)
 
-  pub all-ticked : (m₂ : List ℕ) → ((t : Tables) → m₁ ≡ laid t → m₂ ≡ laid (withTasks t (map ticked (t .tasks))))
-      → (t : Tables) → m₀ ≡ laid t → Limited t → m₂ ≡ laid (tickedTables t)
-  all-ticked m₂ tasks t e h =
-      tasks (withSlots t (map (λ s. slotKeeping s expired) (t .slots))) (slots t e h)
-      ∙ ap (λ (x : List Slot). laid (withSlots (withTasks t (map ticked (t .tasks))) x))
-      (ap (λ (f : List Bool). map (λ s. slotKeeping s f) (t .slots)) (flags t e) ∙ slots-ticked t (h .tasks))
+  pub all-ticked : (m₂ m₃ : List ℕ) → ((t : Tables) → m₁ ≡ laid t → m₂ ≡ laid (withTasks t (map ticked (t .tasks))))
+      → ((t : Tables) → m₂ ≡ laid t → length (t .ready) + length (flagged expired 1) ≤ 32 → m₃ ≡ laid (withReady t (t .ready ++ flagged expired 1)))
+      → (t : Tables) → m₀ ≡ laid t → Limited t → length (t .ready) + length (timedOut (t .tasks) 1) ≤ 32 → m₃ ≡ laid (tickedTables t)
+  all-ticked m₂ m₃ tasks join t e h few =
+      let ss : List Slot = map (λ s. slotKeeping s expired) (t .slots) in
+      let later : List Task = map ticked (t .tasks) in
+      let out : flagged expired 1 ≡ timedOut (t .tasks) 1 = ap (λ (f : List Bool). flagged f 1) (flags t e) ∙ expiring-timed-out t (h .tasks) in
+      join (withTasks (withSlots t ss) later) (tasks (withSlots t ss) (slots t e h)) (rw out few)
+      ∙ ap₂ (λ (x : List Slot) (qs : List ℕ). laid (record { tasks = later; slots = x; ready = t .ready ++ qs }))
+      (ap (λ (f : List Bool). map (λ s. slotKeeping s f) (t .slots)) (flags t e) ∙ slots-ticked t (h .tasks)) out

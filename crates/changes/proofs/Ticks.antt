@@ -4,17 +4,18 @@ use mathlib.Core.Bool.{Bool, false}
 use mathlib.Core.List.{List, [], _∷_, map}
 use Prim.Native.Nat.{ℕ, suc, _+_, _-_, _*_, _≤_, _<_}
 use native.Mathlib.Numerals.{add-one}
+use native.Mathlib.Decide.{ℕ-discrete}
 use native.Mathlib.Omega.{arith}
-use lib.Dec.{eqb}
-use lib.ListN.{length, getD, List·getD-map}
+use lib.Dec.{leb, eqb}
+use lib.ListN.{length, getD, set, List·getD-map}
 use lib.Seq.{sets, set-getD}
-use borrow.Author.Tests.{eq-eqb, ne-eqb, le-leb, lt-leb}
-use Rattle.laws.specs.Choose.{choose}
+use borrow.Author.Tests.{eq-eqb, ne-eqb, le-leb, lt-leb, leb-false}
+use Rattle.laws.specs.Choose.{choose, _and_}
 use Rattle.laws.proofs.Choose.{both-and, if-yes, if-no, if-eq, if-ne}
 use Rattle.words.specs.Words.{bytesOf, wordAt}
 use Rattle.words.proofs.WordsInBytes.{Bytes}
 use Rattle.rules.specs.declared.Task.{Task}
-use Rattle.rules.specs.Machine.{Slot, Tables, withTasks, withSlots, noTask, freeSlot, slotOf, putSlot}
+use Rattle.rules.specs.Machine.{Slot, Tables, withTasks, withSlots, noTask, freeSlot, slotOf, putSlot, waits}
 use Rattle.rules.specs.Semaphore.{requeued}
 use Rattle.rules.specs.Calls.{readied, expires, ticked}
 use Rattle.semaphore.specs.declared.Semaphore.{Semaphore}
@@ -61,6 +62,20 @@ module _ (v : Task) where
   ticked-later h e =
       sym (if-no _ _ (sym (expires-waiting h) ∙ ne-eqb (v .ticks) 1 (omega arith)) ∙ if-yes _ _ (both-and (eq-eqb (v .answer) 100 h) (le-leb 2 (v .ticks) e)))
 
+  pub timed-ready : (v .answer ≡ 100 → ⊥) → false ≡ (waits v and leb 1 (v .ticks))
+  timed-ready h = sym (if-ne (v .answer) 100 _ _ h)
+
+  pub timed-waiting : v .answer ≡ 100 → leb 1 (v .ticks) ≡ (waits v and leb 1 (v .ticks))
+  timed-waiting h = sym (if-eq (v .answer) 100 _ _ h)
+
+  -- what is in no timed wait stays
+  pub ticked-untimed : (waits v and leb 1 (v .ticks)) ≡ false → ticked v ≡ v
+  ticked-untimed e =
+      elim (ℕ-discrete (v .answer) 100) [
+        | yes w ↦ sym (ticked-forever w (let less : v .ticks < 1 = leb-false 1 (v .ticks) (timed-waiting w ∙ e) in omega arith))
+        | no n ↦ sym (ticked-ready n)
+      ]
+
 -- ---- the flags
 
 pub flag-of : (t : Tables) (j : ℕ) → getD (map (λ v. expires v) (t .tasks)) j false ≡ expires (getD (t .tasks) j noTask)
@@ -92,20 +107,40 @@ abbrev pub TickedUpTo : List ℕ → List ℕ → ℕ → Type 0
 TickedUpTo m₀ m i = (t : Tables) → m₀ ≡ laid t → m ≡ laid (tickedUpTo t i)
 
 module _ (m₀ : List ℕ) (b₀ : Bytes m₀) where
-  pub ticked-more : (m m′ : List ℕ) (i : ℕ) (v r : Task) → Bytes m → i < 32 → i < wordAt m₀ 0 → v ≡ taskAt m i → r ≡ ticked v
-      → m′ ≡ sets m (4 * taskPlace i) (bytesOf (taskRow r)) → TickedUpTo m₀ m i → TickedUpTo m₀ m′ (i + 1)
-  ticked-more m m′ i v r b l h u f w s t e =
-      let t′ : Tables = tickedUpTo t i in
-      let n : i < length (t .tasks) = omega (arith, count-laid t (laid-words t (rw e at b₀)), ap (λ (x : List ℕ). wordAt x 0) e) in
-      let n′ : i < length (t′ .tasks) = omega (arith, length-mapped ticked i (t .tasks)) in
-      let old : v ≡ getD (t .tasks) i noTask =
-      u ∙ ap (λ (x : List ℕ). taskAt x i) (s t e) ∙ task-laid t′ (laid-words t′ (rw (s t e) at b)) i l ∙ mapped-at ticked i (t .tasks) noTask
-      in
-      w
-      ∙ ap₂ (λ (x : List ℕ) (y : Task). sets x (4 * taskPlace i) (bytesOf (taskRow y))) (s t e) (f ∙ ap ticked old)
-      ∙ store-task-laid t′ i (ticked (getD (t .tasks) i noTask)) l n′
-      ∙ ap (λ (x : List Task). laid (withTasks t x)) (mapped-next ticked i (t .tasks) noTask n)
-      ∙ ap (λ (k : ℕ). laid (tickedUpTo t k)) (sym (add-one i))
+  -- the task that is read at i is the one of the tables before the tick
+  module _ (m : List ℕ) (i : ℕ) (v : Task) (b : Bytes m) (l : i < 32) (h : i < wordAt m₀ 0) (u : v ≡ taskAt m i) (s : TickedUpTo m₀ m i) where
+    module _ (t : Tables) (e : m₀ ≡ laid t) where
+      within : i < length (t .tasks)
+      within = omega (arith, count-laid t (laid-words t (rw e at b₀)), ap (λ (x : List ℕ). wordAt x 0) e)
+
+      old : v ≡ getD (t .tasks) i noTask
+      old =
+          u ∙ ap (λ (x : List ℕ). taskAt x i) (s t e) ∙ task-laid (tickedUpTo t i) (laid-words (tickedUpTo t i) (rw (s t e) at b)) i l
+          ∙ mapped-at ticked i (t .tasks) noTask
+
+      ticked-next : laid (withTasks t (set (mapped ticked i (t .tasks)) i (ticked (getD (t .tasks) i noTask)))) ≡ laid (tickedUpTo t (i + 1))
+      ticked-next =
+          ap (λ (x : List Task). laid (withTasks t x)) (mapped-next ticked i (t .tasks) noTask within)
+          ∙ ap (λ (k : ℕ). laid (tickedUpTo t k)) (sym (add-one i))
+
+    pub ticked-more : (m′ : List ℕ) (r : Task) → r ≡ ticked v → m′ ≡ sets m (4 * taskPlace i) (bytesOf (taskRow r)) → TickedUpTo m₀ m′ (i + 1)
+    ticked-more m′ r f w t e =
+        let inside : i < length (tickedUpTo t i .tasks) = omega (arith, within t e, length-mapped ticked i (t .tasks)) in
+        w
+        ∙ ap₂ (λ (x : List ℕ) (y : Task). sets x (4 * taskPlace i) (bytesOf (taskRow y))) (s t e) (f ∙ ap ticked (old t e))
+        ∙ store-task-laid (tickedUpTo t i) i (ticked (getD (t .tasks) i noTask)) l inside
+        ∙ ticked-next t e
+
+    -- a task that is in no timed wait is left as it lies
+    pub ticked-same : (waits v and leb 1 (v .ticks)) ≡ false → TickedUpTo m₀ m (i + 1)
+    ticked-same untimed t e =
+        let ts : List Task = mapped ticked i (t .tasks) in
+        let stays : getD ts i noTask ≡ ticked (getD (t .tasks) i noTask) =
+        mapped-at ticked i (t .tasks) noTask ∙ sym (old t e) ∙ sym (ticked-untimed v untimed) ∙ ap ticked (old t e)
+        in
+        s t e
+        ∙ ap (λ (x : List Task). laid (withTasks t x)) (sym (set-getD ts i noTask) ∙ ap (set ts i) stays)
+        ∙ ticked-next t e
 
   pub ticked-all : (m : List ℕ) (i : ℕ) → i ≡ wordAt m₀ 0 → TickedUpTo m₀ m i
       → (t : Tables) → m₀ ≡ laid t → m ≡ laid (withTasks t (map ticked (t .tasks)))

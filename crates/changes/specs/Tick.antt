@@ -1,12 +1,14 @@
--- What a tick asks of the tables, and the flags of the tasks whose wait it ends.
+-- Where a task stands in the sequence; what a tick asks of the tables, and the flags of the tasks whose wait it ends.
 use mathlib.Core.Path.{_≡_}
 use mathlib.Core.Bool.{Bool, false}
-use mathlib.Core.List.{List, map}
+use mathlib.Core.List.{List, [], _∷_, map}
 use Prim.Native.Nat.{ℕ, suc, _<_}
+use lib.Dec.{eqb}
 use lib.ListN.{length}
+use Rattle.laws.specs.Choose.{choose}
 use Rattle.laws.specs.Rows.{fit}
-use Rattle.rules.specs.Machine.{Tables, withTasks, withSlots, slotOf}
-use Rattle.rules.specs.Calls.{expires, ticked, tickedSlot}
+use Rattle.rules.specs.Machine.{Tables, slotOf}
+use Rattle.rules.specs.Calls.{expires}
 use Rattle.semaphore.specs.Record.{TasksOnly}
 use Rattle.tables.specs.Layout.{laid}
 use Rattle.tables.specs.Sizes.{Limited}
@@ -22,10 +24,16 @@ pub record TaskQueues (bs : List ℕ) : Type 0 where
   pub limited : Limited model
   pub numbers : (i : ℕ) → i < length (model .slots) → TasksOnly (length (waitersIn model i)) (waitersIn model i)
 
+-- where a task stands in a sequence, or the sequence's length
+unfoldable pub placeIn : ℕ → List ℕ → ℕ
+placeIn q [] = 0
+placeIn q (x ∷ xs) = let rest = placeIn q xs in choose (eqb q x) 0 (suc rest)
+
 -- of task q at q - 1, and false beyond the last task
 unfoldable pub expiring : Tables → List Bool
 expiring t = fit 32 false (map (λ v. expires v) (t .tasks))
 
--- queues without the tasks whose wait ends, and each task a tick later
-abbrev pub tickedTables : Tables → Tables
-tickedTables t = withSlots (withTasks t (map ticked (t .tasks))) (map (tickedSlot t) (t .slots))
+-- from task q on, the tasks with a flag, in task number order
+unfoldable pub flagged : List Bool → ℕ → List ℕ
+flagged [] q = []
+flagged (b ∷ bs) q = let rest = flagged bs (suc q) in choose b (q ∷ rest) rest

@@ -1,7 +1,7 @@
 -- Laws of lists cut or filled to a length, of lists by their values, and of a run of stores.
 use mathlib.Core.Path.{_≡_, refl, sym, ap, _∙_}
 use mathlib.Core.List.{List, [], _∷_, _++_, map}
-use Prim.Native.Nat.{ℕ, zero, suc, _+_, _≤_, _<_}
+use Prim.Native.Nat.{ℕ, zero, suc, pred, _+_, _≤_, _<_}
 use native.Mathlib.Nat.{not-suc-le-zero, zero-add, suc-add}
 use native.Mathlib.Omega.{arith}
 use lib.ListN.{length, getD, set, take, replicate, length-set}
@@ -35,6 +35,12 @@ module _ {A : Type 0} where
   tabulate-same zero f g h = refl
   tabulate-same (suc n) f g h =
       λ k. h zero (omega arith) k ∷ tabulate-same n (λ i. f (suc i)) (λ i. g (suc i)) (λ i l. h (suc i) (omega arith)) k
+
+  -- one value more
+  pub tabulate-last : (n : ℕ) (f : ℕ → A) → tabulate n f ++ f n ∷ [] ≡ tabulate (suc n) f
+  unfolding tabulate
+  tabulate-last zero f = refl
+  tabulate-last (suc n) f = ap (λ (r : List A). f zero ∷ r) (tabulate-last n (λ i. f (suc i)))
 
   pub tabulate-getD : (xs : List A) (d : A) → tabulate (length xs) (λ i. getD xs i d) ≡ xs
   unfolding tabulate
@@ -114,6 +120,21 @@ module _ {A : Type 0} where
   set-fit-next (suc n) d [] k h = absurd (not-suc-le-zero h)
   set-fit-next (suc n) d (x ∷ xs) zero h = refl
   set-fit-next (suc n) d (x ∷ xs) (suc k) h = ap (λ (r : List A). x ∷ r) (set-fit-next n d xs k (omega arith))
+
+  -- one more behind those in hand
+  pub set-fit-end : (n : ℕ) (d : A) (xs : List A) (x : A) → length xs < n → set (fit n d xs) (length xs) x ≡ fit n d (xs ++ x ∷ [])
+  unfolding fit
+  set-fit-end zero d xs x h = absurd (not-suc-le-zero h)
+  set-fit-end (suc n) d [] x h = refl
+  set-fit-end (suc n) d (y ∷ xs) x h = ap (λ (r : List A). y ∷ r) (set-fit-end n d xs x (omega arith))
+
+  -- the last left out
+  pub set-fit-last : (n : ℕ) (d : A) (xs : List A) → 1 ≤ length xs → set (fit n d xs) (pred (length xs)) d ≡ fit n d (take (pred (length xs)) xs)
+  unfolding fit
+  set-fit-last zero d xs h = refl
+  set-fit-last (suc n) d [] h = absurd (not-suc-le-zero h)
+  set-fit-last (suc n) d (x ∷ []) h = refl
+  set-fit-last (suc n) d (x ∷ y ∷ ys) h = ap (λ (r : List A). x ∷ r) (set-fit-last n d (y ∷ ys) (omega arith))
 
   -- ---- stores
 

@@ -1,19 +1,19 @@
 -- What each test on the way of a look-up says of its answer, over the model of lent bytes.
 use mathlib.Core.Path.{_≡_, ap, ap₂, sym, _∙_}
 use mathlib.Core.Bool.{Bool, true, false}
-use mathlib.Core.List.{List, _∷_}
-use Prim.Native.Nat.{ℕ, suc, pred, _+_, _-_, _/_, _%_, _≤_, _<_}
+use mathlib.Core.List.{List}
+use Prim.Native.Nat.{ℕ, pred, _-_, _/_, _%_, _≤_, _<_}
 use native.Mathlib.Omega.{arith}
 use lib.Dec.{ltb, eqb}
 use lib.ListN.{length, getD}
 use lib.Seq.{length-take-le}
-use borrow.Author.Tests.{eq-eqb, ne-eqb, lt-ltb, le-ltb, le-leb, lt-leb}
+use borrow.Author.Tests.{eq-eqb, ne-eqb, le-leb, lt-leb}
 use Rattle.laws.specs.Choose.{choose, _and_, isnt}
-use Rattle.laws.proofs.Choose.{if-yes, if-no, if-lt, if-not-lt, choose-same, both-and, false-isnt}
+use Rattle.laws.proofs.Choose.{if-yes, if-no, if-lt, if-not-lt, choose-same, both-and}
 use Rattle.words.specs.Words.{wordAt}
 use Rattle.rules.specs.declared.Task.{Task}
 use Rattle.rules.specs.Numbers.{byPriority}
-use Rattle.rules.specs.Machine.{Slot, noTask, freeSlot, taskOf, slotOf, waits, urgency, names, slotNamed, mostUrgent}
+use Rattle.rules.specs.Machine.{Slot, noTask, freeSlot, taskOf, slotOf, waits, urgency, names, slotNamed}
 use Rattle.rules.specs.Semaphore.{ahead, placeOf}
 use Rattle.rules.specs.Calls.{callerRefusal}
 use Rattle.semaphore.specs.declared.Semaphore.{Semaphore}
@@ -27,29 +27,6 @@ and-first b e = if-no b false e
 
 and-second : (a : Bool) {b : Bool} → b ≡ false → (a and b) ≡ false
 and-second a {b} e = ap (λ (b : Bool). a and b) e ∙ choose-same a false
-
--- ---- one task more
-
-module _ (best p q : ℕ) (v : Task) (vs : List Task) where
-  abbrev isBetter : Bool
-  isBetter = isnt (waits v) and ltb (v .priority) p
-
-  same-best : isBetter ≡ false → mostUrgent vs (suc q) best p ≡ mostUrgent (v ∷ vs) q best p
-  unfolding mostUrgent
-  same-best e = sym (ap₂ (mostUrgent vs (suc q)) (if-no q best e) (if-no (v .priority) p e))
-
-  pub better-waits : v .answer ≡ 100 → mostUrgent vs (suc q) best p ≡ mostUrgent (v ∷ vs) q best p
-  better-waits h = same-best (and-first _ (if-yes false true (eq-eqb (v .answer) 100 h)))
-
-  pub better-later : p ≤ v .priority → mostUrgent vs (suc q) best p ≡ mostUrgent (v ∷ vs) q best p
-  better-later h = same-best (and-second (isnt (waits v)) (le-ltb (v .priority) p h))
-
-  pub better-now : (v .answer ≡ 100 → ⊥) → v .priority < p
-      → mostUrgent vs (suc q) q (v .priority) ≡ mostUrgent (v ∷ vs) q best p
-  unfolding mostUrgent
-  better-now h l =
-      let e : isBetter ≡ true = both-and (false-isnt (waits v) (ne-eqb (v .answer) 100 h)) (lt-ltb (v .priority) p l) in
-      sym (ap₂ (mostUrgent vs (suc q)) (if-yes q best e) (if-yes (v .priority) p e))
 
 -- ---- a task by its number
 

@@ -1,58 +1,32 @@
 // What the calls ask of the tables. Nothing here writes.
-use rules::Task;
+use rules::Best;
 use semaphore::Semaphore;
 ghost use mathlib.Core.Path.{_≡_};
-ghost use mathlib.Core.List.{List, _∷_};
-ghost use Prim.Native.Nat.{suc, pred, _≤_};
+ghost use Prim.Native.Nat.{pred, _≤_};
 ghost use lib.Dec.{ltb, eqb};
 ghost use Rattle.laws.specs.Choose.{_and_, isnt};
-ghost use Rattle.rules.specs.declared.Task.{Task as TaskModel};
-ghost use Rattle.rules.specs.Machine.{mostUrgent, next, urgency, slotNamed};
+ghost use Rattle.rules.specs.Machine.{next, urgency, slotNamed};
 ghost use Rattle.rules.specs.Semaphore.{ahead, placeOf};
 ghost use Rattle.rules.specs.Calls.{taskOnly, anyCaller, callerRefusal, openSlot, firstNamed};
 ghost use Rattle.semaphore.specs.Record.{slotFrom};
 ghost use Rattle.tables.specs.Layout.{modelOf};
 ghost use Rattle.tables.specs.Sizes.{Sized};
 
-// A number above every priority.
-const ABOVE_ALL: u32 = 256;
-
-// The most urgent ready task among those seen so far, 0 for none, and its priority.
-struct Best {
-    task: u32,
-    priority: u32,
-}
-
-// The best so far and one task more.
-fn better(best: Best, q: u32, v: Task) -> Best
-    ensures { λ r. ⌜ ((vs : List TaskModel) → mostUrgent vs (suc q) (r .task) (r .priority) ≡ mostUrgent (v ∷ vs) q (best .task) (best .priority)) ⌝ }
-{
-    if v.answer == rules::WAITING {
-        return best;
-    }
-    if best.priority <= v.priority {
-        return best;
-    }
-    Best {
-        task: q,
-        priority: v.priority,
-    }
-}
-
 pub fn next_task(m: &[u8]) -> u32
     requires { ⌜ Sized (now m) ⌝ }
     ensures { λ r. ⌜ r ≡ next (modelOf (now (m .entry))) ⌝ }
 {
-    let n = tables::task_count(m);
+    let tasks = tables::task_count(m) as usize;
+    let ready = tables::ready_count(m) as usize;
     let mut best = Best {
         task: 0,
-        priority: ABOVE_ALL,
+        priority: rules::ABOVE_ALL,
     };
-    let mut i: u32 = 0;
-    while i < n {
-        let v = tables::load_task(m, i as usize);
-        best = better(best, i + 1, v);
-        i += 1;
+    let mut k = 0;
+    while k < ready {
+        let q = tables::ready_entry(m, k);
+        best = rules::better(best, tasks, q, priority_of(m, q));
+        k += 1;
     }
     best.task
 }

@@ -1,5 +1,5 @@
 -- The entry points over lent bytes and the rules over tables: bytes that agree go as their tables do, and others stay for good.
-use mathlib.Core.Path.{_≡_, refl, sym, subst, ap, ap₂, _∙_}
+use mathlib.Core.Path.{_≡_, refl, sym, subst, subst₂, ap, ap₂, _∙_}
 use mathlib.Core.Bool.{true, false}
 use mathlib.Core.List.{List, [], _∷_, map}
 use mathlib.Core.Logic.{_↔_, ⊎-elim}
@@ -18,10 +18,12 @@ use Rattle.rules.specs.Machine.{Tables, names}
 use Rattle.rules.specs.Agreement.{agrees}
 use Rattle.rules.specs.Calls.{step}
 use Rattle.rules.specs.Runs.{Request, after, answers}
-use Rattle.rules.specs.Promises.{IsRefusal, given, listed, isIn, NeverAgain}
+use Rattle.rules.specs.Promises.{IsRefusal, given, listed, isIn, NextIs, sequenceAfter, NeverAgain}
 use Rattle.rules.specs.Fits.{callFits, callsFit}
 use Rattle.rules.proofs.Invariants.Kept.{kept}
 use Rattle.rules.proofs.Refusals.{refusal-keeps, internal-error}
+use Rattle.rules.proofs.Next.{answered-next}
+use Rattle.rules.proofs.Sequence.{ready-order}
 use Rattle.rules.proofs.Statuses.{status-listed}
 use Rattle.rules.proofs.History.Identifiers.{deleted-never-names, deleted-never-again, deleted-retires, retired-never-again}
 use Rattle.tables.specs.Layout.{laid, modelOf}
@@ -114,6 +116,22 @@ module _ {bs : List ℕ} (g : Agreeing bs) (call : Call) (priorities : List ℕ)
 
   left-model : modelOf (replyTo bs call priorities .bytes) ≡ step (modelOf bs) call priorities .tables
   left-model = model-is (step (modelOf bs) call priorities .tables) (kept (modelOf bs) call priorities fits (g .agrees)) _ left
+
+-- the sequence of ready tasks after a call, read from the bytes before and after it
+pub sequence-after-bytes : (bs : List ℕ) (call : Call) (priorities : List ℕ) → Bytes bs → agreesBytes bs ≡ true → callFits call ≡ true
+    → let u = modelOf (replyTo bs call priorities .bytes) in u .ready ≡ sequenceAfter (modelOf bs) call u
+sequence-after-bytes bs call priorities b e fits =
+    let g = tested b e in
+    subst (λ (u : Tables). u .ready ≡ sequenceAfter (modelOf bs) call u) (sym (left-model g call priorities fits))
+    (ready-order (modelOf bs) call priorities (g .agrees))
+
+-- the next task that an entry point answers is that of the bytes it leaves
+pub next-after-bytes : (bs : List ℕ) (call : Call) (priorities : List ℕ) → Bytes bs → agreesBytes bs ≡ true → callFits call ≡ true
+    → let r = replyTo bs call priorities in NextIs (modelOf (r .bytes)) (r .answer .next)
+next-after-bytes bs call priorities b e fits =
+    let g = tested b e in
+    subst₂ NextIs (sym (left-model g call priorities fits)) (sym (ap (λ (x : Reply). x .answer .next) (reply-is bs call priorities e)))
+    (answered-next (modelOf bs) call priorities fits (g .agrees))
 
 -- bytes that agree go as their tables do, and agree after every call
 pub record Runs (bs : List ℕ) (requests : List Request) : Type 0 where

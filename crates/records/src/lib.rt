@@ -1,51 +1,40 @@
 // A caller's own task records: the next task of a lent list of them as it lies, and one woken where it stands.
+use rules::Best;
 use rules::Task;
 ghost use mathlib.Core.Path.{_≡_};
-ghost use mathlib.Core.List.{List, _∷_};
-ghost use Prim.Native.Nat.{suc};
-ghost use Rattle.rules.specs.declared.Task.{Task as TaskModel};
-ghost use Rattle.rules.specs.Machine.{unstarted, withTasks, mostUrgent, next};
+ghost use Prim.Native.Nat.{pred};
+ghost use Rattle.rules.specs.Machine.{unstarted, withTasks, withReady, next};
 ghost use Rattle.rules.specs.Calls.{readied};
 
-// A number above every priority.
-const ABOVE_ALL: u32 = 256;
-
-// The most urgent ready task among those seen so far, 0 for none, and its priority.
-struct Best {
-    task: usize,
-    priority: u32,
-}
-
-// The best so far and task q.
-fn better(best: Best, q: usize, v: Task) -> Best
-    ensures { λ r. ⌜ ((vs : List TaskModel) → mostUrgent vs (suc q) (r .task) (r .priority) ≡ mostUrgent (v ∷ vs) q (best .task) (best .priority)) ⌝ }
+// The index of task q in a list of tasks, which are counted from 1; 0, no task's number, has the first task's.
+fn index_of(q: u32) -> usize
+    ensures { λ r. ⌜ r ≡ pred q ⌝ }
 {
-    if v.answer == rules::WAITING {
-        return best;
+    if q == 0 {
+        return 0;
     }
-    if best.priority <= v.priority {
-        return best;
-    }
-    Best {
-        task: q,
-        priority: v.priority,
-    }
+    q as usize - 1
 }
 
-// The next task of a list of records of any length, as the core chooses it; tasks are counted from 1.
+// The next task of a list of records of any length, as the core chooses it from the sequence of ready tasks; tasks are counted from 1,
+// and a number that is no record's is passed over.
 #[no_mangle]
-pub extern "C" fn mast_next_task(tasks: &[Task]) -> usize
-    ensures { λ r. ⌜ r ≡ next (withTasks unstarted (now (tasks .entry))) ⌝ }
+pub extern "C" fn mast_next_task(tasks: &[Task], ready: &[u32]) -> u32
+    ensures { λ r. ⌜ r ≡ next (withReady (withTasks unstarted (now (tasks .entry))) (now (ready .entry))) ⌝ }
 {
     let mut best = Best {
         task: 0,
-        priority: ABOVE_ALL,
+        priority: rules::ABOVE_ALL,
     };
-    let mut i: usize = 0;
-    while i < tasks.len() {
-        let v = tasks[i];
-        i += 1;
-        best = better(best, i, v);
+    let mut k: usize = 0;
+    while k < ready.len() {
+        let q = ready[k];
+        k += 1;
+        let i = index_of(q);
+        if i < tasks.len() {
+            let v = tasks[i];
+            best = rules::better(best, tasks.len(), q, v.priority);
+        }
     }
     best.task
 }

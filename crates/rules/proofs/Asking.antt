@@ -2,17 +2,19 @@
 use mathlib.Core.List.{List, [], map}
 use Prim.Native.Nat.{ℕ}
 use Rattle.laws.specs.Choose.{choose}
-use Rattle.laws.specs.All.{all}
+use Rattle.laws.specs.All.{all, those}
+use Rattle.laws.specs.Rows.{tabulate, rows}
 use Rattle.rules.specs.declared.Call.{Call}
 use Rattle.rules.specs.declared.Call.the-variants.{Start, Obtain}
 use Rattle.rules.specs.declared.Answer.{Answer}
 use Rattle.rules.specs.Machine.{Tables, unstarted, next, mostUrgent}
 use Rattle.rules.specs.Agreement.{occurs, sizesFit, numbersFit, answersFit, liveNamed, attributesAllowed, waitersQueued, queuesWait}
-use Rattle.rules.specs.Agreement.{queuesOrdered, queuedAtZero, binariesRight, othersRight, readyAtRest, freeSlotsClear, agrees}
+use Rattle.rules.specs.Agreement.{queuesOrdered, queuedAtZero, binariesRight, othersRight, readyAtRest, freeSlotsClear}
+use Rattle.rules.specs.Agreement.{readySequenced, sequenceReady, agrees}
 use Rattle.rules.specs.Semaphore.{waitOf, ahead, placeOf, takeStep, giveStep, passStep, flushStep}
 use Rattle.rules.specs.Calls.{wakeAll, startRefusal, started, start, firstFree, createRefusal, newSemaphore, create, firstNamed, ident}
-use Rattle.rules.specs.Calls.{deleteRefusal, delete, obtainRefusal, obtain, releaseRefusal, release, flushRefusal, flush, ticked, stillWaiting}
-use Rattle.rules.specs.Calls.{tickedSlot, tick, perform, step}
+use Rattle.rules.specs.Calls.{deleteRefusal, delete, without, obtainRefusal, obtain, releaseRefusal, release, flushRefusal, flush}
+use Rattle.rules.specs.Calls.{ticked, stillWaiting, tickedSlot, timedOut, tick, perform, step}
 use Rattle.rules.specs.Runs.{Request, stepOf, after, answers}
 
 infixr 20 _gives_
@@ -45,10 +47,10 @@ expected = map (λ l. l .answer)
 
 -- the answers, the last answer and the last tables of a run from the machine not yet started; to unfold one is to unfold all rules
 unfoldable pub answersOf : List Request → List Answer
-unfolding choose all next mostUrgent occurs sizesFit numbersFit answersFit liveNamed attributesAllowed waitersQueued queuesWait queuesOrdered
-    queuedAtZero binariesRight othersRight readyAtRest freeSlotsClear agrees waitOf ahead placeOf takeStep giveStep passStep flushStep wakeAll
-    startRefusal started start firstFree createRefusal newSemaphore create firstNamed ident deleteRefusal delete obtainRefusal obtain
-    releaseRefusal release flushRefusal flush ticked stillWaiting tickedSlot tick perform step after answers
+unfolding choose all those tabulate rows next mostUrgent occurs sizesFit numbersFit answersFit liveNamed attributesAllowed waitersQueued queuesWait queuesOrdered
+    queuedAtZero binariesRight othersRight readyAtRest freeSlotsClear readySequenced sequenceReady agrees waitOf ahead placeOf takeStep giveStep passStep
+    flushStep wakeAll startRefusal started start firstFree createRefusal newSemaphore create firstNamed ident deleteRefusal delete without obtainRefusal obtain
+    releaseRefusal release flushRefusal flush ticked stillWaiting tickedSlot timedOut tick perform step after answers
 answersOf rs = answers unstarted rs
 
 abbrev pub tablesOf : List Request → Tables

@@ -4,7 +4,9 @@ pub mod Traps
 pub mod Performed
 pub mod Refusals
 pub mod Statuses
+pub mod Choosing
 pub mod Next
+pub mod Sequence
 pub mod Searching
 pub mod Invariants
 pub mod History

@@ -1,167 +1,163 @@
--- The scan for the next task finds what document 01 says.
-use mathlib.Core.Path.{_≡_, refl, sym, subst, ap}
-use mathlib.Core.Bool.{Bool, true, false}
+-- The scan of the sequence for the next task finds what request 1 says: the first of the least priority number.
+use mathlib.Core.Path.{_≡_, refl, sym, subst, ap, _∙_}
+use mathlib.Core.Bool.{true, false}
 use mathlib.Core.List.{List, [], _∷_}
-use mathlib.Core.Logic.{_⊎_, inl, inr, ⊎-elim}
-use Prim.Native.Nat.{ℕ, suc, pred, _≤_, _<_}
+use mathlib.Core.Logic.{⊎-elim}
+use Prim.Native.Nat.{ℕ, zero, suc, pred, _≤_, _<_}
 use native.Mathlib.Omega.{arith}
-use native.Mathlib.Decide.{ℕ-discrete}
-use lib.Dec.{ltb}
-use lib.ListN.{length, getD, drop, length-drop}
-use lib.Seq.{drop-cons}
-use borrow.Author.Tests.{ltb-true, ltb-false, leb-true}
-use Rattle.laws.specs.Choose.{choose, _and_, isnt}
-use Rattle.laws.proofs.Choose.{and-both, both-and, isnt-false, false-isnt, tested, never, if-yes, if-no}
-use Rattle.laws.proofs.All.{all-at}
-use Rattle.rules.specs.declared.Task.{Task}
+use native.Mathlib.Nat.{not-suc-le-zero}
+use lib.Dec.{ltb, eqb}
+use lib.ListN.{length, getD}
+use borrow.Author.Tests.{eqb-true, ltb-true, ltb-false, leb-true}
+use Rattle.laws.specs.Choose.{_and_}
+use Rattle.laws.proofs.Choose.{and-both, both-and, tested, if-yes, if-no}
+use Rattle.rules.specs.declared.Call.{Call}
 use Rattle.rules.specs.Numbers.{maxPriority}
-use Rattle.rules.specs.Machine.{Tables, noTask, taskOf, waits, mostUrgent, next}
-use Rattle.rules.specs.Agreement.{numbersFit, agrees}
-use Rattle.rules.specs.Promises.{MostUrgent, NextIs}
+use Rattle.rules.specs.Machine.{Tables, isTask, urgency, mostUrgent, next}
+use Rattle.rules.specs.Agreement.{Agrees, isReadyTask, occurs}
+use Rattle.rules.specs.Calls.{Outcome, perform, step}
+use Rattle.rules.specs.Fits.{callFits}
+use Rattle.rules.specs.Promises.{NextIs}
 use Rattle.rules.specs.Promises.NextIs.{nobody, somebody}
+use Rattle.rules.proofs.Invariants.Lists.{bit-yes, bit-no, bit-true, occurs-cons, occurs-none, occurs-at}
+use Rattle.rules.proofs.Invariants.Facts.{Facts}
+use Rattle.rules.proofs.Invariants.FromTests.{agrees-facts}
+use Rattle.rules.proofs.Invariants.Agreeing.{agrees-true}
+use Rattle.rules.proofs.Invariants.Kept.{kept}
+use Rattle.rules.proofs.Performed.{Performed, performed}
+use Rattle.rules.proofs.Performed.Performed.{refusing, done, began}
 
-below-suc : (k n : ℕ) → k < suc n → (k < n) ⊎ (k ≡ n)
-below-suc k n h = elim (ℕ-discrete k n) [ yes e ↦ inr e | no d ↦ inl (omega arith) ]
+-- r is the first of the least number in a list
+record First (u : ℕ → ℕ) (xs : List ℕ) (r : ℕ) : Type 0 where
+  place : ℕ
+  inside : place < length xs
+  here : getD xs place 0 ≡ r
+  first : (k : ℕ) → k < place → u r < u (getD xs k 0)
+  least : (k : ℕ) → k < length xs → u r ≤ u (getD xs k 0)
 
--- the task at an index
-abbrev at : List Task → ℕ → Task
-at l i = getD l i noTask
+-- what a scan gives that comes with `best`, of number p: that, where no number of the list is less, or the first of the least, which is less than p
+data Scanned (u : ℕ → ℕ) (xs : List ℕ) (best p r : ℕ) : Type 0 where
+  stays : r ≡ best → ((k : ℕ) → k < length xs → p ≤ u (getD xs k 0)) → Scanned u xs best p r
+  finds : First u xs r → u r < p → Scanned u xs best p r
 
--- where the best of the first k comes from: there is none yet, at a bound above all priorities, or it is one of them
-record Chosen (l : List Task) (k best p : ℕ) : Type 0 where
-  low : 1 ≤ best
-  high : best ≤ k
-  ready : waits (at l (pred best)) ≡ false
-  priority : at l (pred best) .priority ≡ p
-  inRange : p ≤ maxPriority
+module _ (u : ℕ → ℕ) (x : ℕ) (xs : List ℕ) where
+  -- an order that holds of the head and of the others
+  at-most : (n : ℕ) → n ≤ u x → ((k : ℕ) → k < length xs → n ≤ u (getD xs k 0)) → (k : ℕ) → k < length (x ∷ xs) → n ≤ u (getD (x ∷ xs) k 0)
+  at-most n h f zero b = h
+  at-most n h f (suc k) b = f k (omega arith)
 
-data Origin (l : List Task) (k best p : ℕ) : Type 0 where
-  unchosen : best ≡ 0 → p ≡ suc maxPriority → Origin l k best p
-  chosen : Chosen l k best p → Origin l k best p
+  below : (n place : ℕ) → n < u x → ((k : ℕ) → k < place → n < u (getD xs k 0)) → (k : ℕ) → k < suc place → n < u (getD (x ∷ xs) k 0)
+  below n place h f zero b = h
+  below n place h f (suc k) b = f k (omega arith)
 
--- what holds once the first k tasks are scanned
-record Scanned (l : List Task) (k best p : ℕ) : Type 0 where
-  origin : Origin l k best p
-  least : (i : ℕ) → i < k → waits (at l i) ≡ false → p ≤ at l i .priority
-  lowest : (i : ℕ) → i < k → waits (at l i) ≡ false → at l i .priority ≡ p → best ≤ suc i
-
-bound : {l : List Task} {k best p : ℕ} → Origin l k best p → p ≤ suc maxPriority
-bound (unchosen z e) = omega arith
-bound (chosen c) = omega arith
-
-at-most : {l : List Task} {k best p : ℕ} → Origin l k best p → best ≤ k
-at-most (unchosen z e) = omega arith
-at-most (chosen c) = c .high
-
-further : {l : List Task} {k best p : ℕ} → Origin l k best p → Origin l (suc k) best p
-further (unchosen z e) = unchosen z e
-further (chosen c) =
-    chosen (record { low = c .low; high = omega arith; ready = c .ready; priority = c .priority; inRange = c .inRange })
-
-module _ (l : List Task) (k best p : ℕ) (s : Scanned l k best p) where
-  -- the task at k is ready and more urgent than all before
-  better : waits (at l k) ≡ false → at l k .priority < p → Scanned l (suc k) (suc k) (at l k .priority)
-  better r h = record {
-    origin = chosen (record { low = omega arith; high = omega arith; ready = r; priority = refl; inRange = omega (arith, bound (s .origin)) });
-    least = λ i b w. ⊎-elim (λ (m : i < k). let e : p ≤ at l i .priority = s .least i m w in omega arith)
-        (λ (m : i ≡ k). omega (arith, ap (λ j. at l j .priority) m)) (below-suc i k b);
-    lowest = λ i b w e. ⊎-elim (λ (m : i < k). let f : p ≤ at l i .priority = s .least i m w in omega arith) (λ (m : i ≡ k). omega arith) (below-suc i k b);
+  -- the first of the others, which is less than the head
+  later : {r : ℕ} → u r < u x → First u xs r → First u (x ∷ xs) r
+  later {r} h f = record {
+    place = suc (f .place);
+    inside = omega (arith, f .inside);
+    here = f .here;
+    first = below (u r) (f .place) h (f .first);
+    least = at-most (u r) (omega arith) (f .least);
   }
 
-  -- or it is not, and the best stays
-  noBetter : (waits (at l k) ≡ false → p ≤ at l k .priority) → Scanned l (suc k) best p
-  noBetter h = record {
-    origin = further (s .origin);
-    least = λ i b w. ⊎-elim (λ (m : i < k). s .least i m w)
-        (λ (m : i ≡ k). subst (λ j. p ≤ at l j .priority) (sym m) (h (subst (λ j. waits (at l j) ≡ false) m w))) (below-suc i k b);
-    lowest = λ i b w e. ⊎-elim (λ (m : i < k). s .lowest i m w e) (λ (m : i ≡ k). omega (arith, at-most (s .origin))) (below-suc i k b);
-  }
+  -- the head is less than all before, or it is not
+  better : {best p r : ℕ} → u x < p → Scanned u xs x (u x) r → Scanned u (x ∷ xs) best p r
+  better {r = r} h (stays e f) =
+      let same : u r ≡ u x = ap u e in
+      finds (record {
+        place = 0;
+        inside = omega arith;
+        here = sym e;
+        first = λ k b. absurd (not-suc-le-zero b);
+        least = at-most (u r) (omega arith)
+            (λ k b. omega (arith, f k b));
+      }) (omega arith)
+  better h (finds f l) = finds (later l f) (omega arith)
 
-  abbrev test : Bool
-  test = isnt (waits (at l k)) and ltb (at l k .priority) p
+  no-better : {best p r : ℕ} → p ≤ u x → Scanned u xs best p r → Scanned u (x ∷ xs) best p r
+  no-better {p = p} h (stays e f) = stays e (at-most p h f)
+  no-better h (finds f l) = finds (later (omega arith) f) l
 
-  one-more : Scanned l (suc k) (choose test (suc k) best) (choose test (at l k .priority) p)
-  one-more = ⊎-elim yes-better no-better (tested test)
-    where
-      yes-better : test ≡ true → Scanned l (suc k) (choose test (suc k) best) (choose test (at l k .priority) p)
-      yes-better e =
-          rw (if-yes (suc k) best e, if-yes (at l k .priority) p e)
-          (better (isnt-false _ (and-both (isnt (waits (at l k))) _ e .0)) (ltb-true _ _ (and-both (isnt (waits (at l k))) _ e .1)))
+scan : (t : Tables) (xs : List ℕ) (best p : ℕ) → ((k : ℕ) → k < length xs → isTask t (getD xs k 0) ≡ true)
+    → Scanned (urgency t) xs best p (mostUrgent t xs best p)
+unfolding mostUrgent
+scan t [] best p tasks = stays refl (λ k b. absurd (not-suc-le-zero b))
+scan t (x ∷ xs) best p tasks =
+    ⊎-elim
+    (λ (e : ltb (urgency t x) p ≡ true).
+    let yes : (isTask t x and ltb (urgency t x) p) ≡ true = both-and (tasks 0 (omega arith)) e in
+    rw (if-yes x best yes, if-yes (urgency t x) p yes)
+    (better (urgency t) x xs (ltb-true _ _ e) (scan t xs x (urgency t x) (λ k b. tasks (suc k) (omega arith)))))
+    (λ (e : ltb (urgency t x) p ≡ false).
+    let no : (isTask t x and ltb (urgency t x) p) ≡ false = if-yes _ _ (tasks 0 (omega arith)) ∙ e in
+    rw (if-no x best no, if-no (urgency t x) p no)
+    (no-better (urgency t) x xs (ltb-false _ _ e) (scan t xs best p (λ k b. tasks (suc k) (omega arith)))))
+    (tested (ltb (urgency t x) p))
 
-      not-below : test ≡ false → waits (at l k) ≡ false → p ≤ at l k .priority
-      not-below e w =
-          ⊎-elim (λ (m : ltb (at l k .priority) p ≡ true). never (both-and (false-isnt _ w) m) e)
-          (λ (m : ltb (at l k .priority) p ≡ false). ltb-false _ _ m) (tested (ltb (at l k .priority) p))
+-- where a number stands that occurs in a list
+record Stands (q : ℕ) (xs : List ℕ) : Type 0 where
+  place : ℕ
+  inside : place < length xs
+  here : getD xs place 0 ≡ q
 
-      no-better : test ≡ false → Scanned l (suc k) (choose test (suc k) best) (choose test (at l k .priority) p)
-      no-better e = rw (if-no (suc k) best e, if-no (at l k .priority) p e) (noBetter (not-below e))
+stands : (q : ℕ) (xs : List ℕ) → 1 ≤ occurs q xs → Stands q xs
+stands q [] h = absurd (omega (arith, occurs-none q))
+stands q (x ∷ xs) h =
+    ⊎-elim (λ (e : eqb q x ≡ true). record { place = 0; inside = omega arith; here = sym (eqb-true q x e) })
+    (λ (e : eqb q x ≡ false).
+    let s = stands q xs (omega (arith, occurs-cons q x xs, bit-no _ e)) in
+    record { place = suc (s .place); inside = omega (arith, s .inside); here = s .here })
+    (tested (eqb q x))
 
--- a scan of the rest, from what the tasks before gave
-ScannedAll : List Task → ℕ → Type 0
-ScannedAll l best = (p : ℕ) × Scanned l (length l) best p
+module _ (t : Tables) (f : Facts t) where
+  -- the sequence holds ready tasks, and every one
+  entry : (k : ℕ) → k < length (t .ready) → isReadyTask t (getD (t .ready) k 0) ≡ true
+  entry k b = bit-true _ (subst (λ (n : ℕ). 1 ≤ n) (f .ready (getD (t .ready) k 0)) (occurs-at (t .ready) k b))
 
-scan : (l vs : List Task) (k best p : ℕ) → drop k l ≡ vs → k ≤ length l → Scanned l k best p → ScannedAll l (mostUrgent vs (suc k) best p)
-unfolding mostUrgent ScannedAll
-scan l [] k best p e h s = (p, subst (λ j. Scanned l j best p) here s)
-  where
-    here : k ≡ length l
-    here = omega (arith, length-drop k l, ap length e)
-scan l (v ∷ vs) k best p e h s =
-    subst (λ w. ScannedAll l (mostUrgent vs (suc (suc k)) (choose (isnt (waits w) and ltb (w .priority) p) (suc k) best)
-    (choose (isnt (waits w) and ltb (w .priority) p) (w .priority) p)))
-    head (scan l vs (suc k) _ _ tail inside (one-more l k best p s))
-  where
-    inside : k < length l
-    inside = omega (arith, length-drop k l, ap length e)
+  standing : (r : ℕ) → isReadyTask t r ≡ true → Stands r (t .ready)
+  standing r e = stands r (t .ready) (omega (arith, f .ready r, bit-yes _ e))
 
-    head : at l k ≡ v
-    head = cc (drop-cons l k noTask inside)
+  in-range : (r : ℕ) → isTask t r ≡ true → urgency t r ≤ maxPriority
+  in-range r e =
+      let low : 1 ≤ r = leb-true _ _ (and-both _ _ e .0) in
+      let high : r ≤ length (t .tasks) = leb-true _ _ (and-both _ _ e .1) in
+      f .urgent (pred r) (omega arith) .1
 
-    tail : drop (suc k) l ≡ vs
-    tail = cc (drop-cons l k noTask inside)
+  concluded : {q : ℕ} → Scanned (urgency t) (t .ready) 0 (suc maxPriority) q → NextIs t q
+  concluded (stays e above) =
+      nobody e (λ r. ⊎-elim (λ (y : isReadyTask t r ≡ true).
+      let s = standing r y in
+      absurd (omega (arith, above (s .place) (s .inside), ap (urgency t) (s .here), in-range r (and-both _ _ y .0))))
+      (λ (n : isReadyTask t r ≡ false). n) (tested (isReadyTask t r)))
+  concluded (finds w l) =
+      somebody (record {
+        ready = subst (λ (n : ℕ). isReadyTask t n ≡ true) (w .here) (entry (w .place) (w .inside));
+        least = λ r e. let s = standing r e in omega (arith, w .least (s .place) (s .inside), ap (urgency t) (s .here));
+        place = w .place;
+        inside = w .inside;
+        here = w .here;
+        first = w .first;
+      })
 
-unscanned : (l : List Task) → Scanned l 0 0 (suc maxPriority)
-unscanned l = record { origin = unchosen refl refl; least = λ i b w. omega arith; lowest = λ i b w e. omega arith }
+pub next-is : (t : Tables) → Agrees t → NextIs t (next t)
+unfolding next
+next-is t a =
+    let f = agrees-facts t a in
+    concluded t f (scan t (t .ready) 0 (suc maxPriority) (λ k b. and-both _ _ (entry t f k b) .0))
 
-module _ (t : Tables) (q p : ℕ) (s : Scanned (t .tasks) (length (t .tasks)) q p) where
-  none-ready : p ≡ suc maxPriority → (r : ℕ) → 1 ≤ r → r ≤ length (t .tasks)
-      → (waits (at (t .tasks) (pred r)) ≡ true) ⊎ (maxPriority < at (t .tasks) (pred r) .priority)
-  none-ready e r a b =
-      ⊎-elim (λ (w : waits (at (t .tasks) (pred r)) ≡ true). inl w)
-      (λ (w : waits (at (t .tasks) (pred r)) ≡ false). let m : p ≤ at (t .tasks) (pred r) .priority = s .least (pred r) (omega arith) w in inr (omega arith))
-      (tested (waits (at (t .tasks) (pred r))))
+-- ---- the next task that a call answers is that of the tables it leaves
 
-  most-urgent : Chosen (t .tasks) (length (t .tasks)) q p → MostUrgent t q
-  most-urgent c = record {
-    low = c .low;
-    high = c .high;
-    ready = c .ready;
-    inRange = omega arith;
-    least = λ r a b w. let m : p ≤ at (t .tasks) (pred r) .priority = s .least (pred r) (omega arith) w in omega arith;
-    lowest = λ r a b w e. let m : q ≤ suc (pred r) = s .lowest (pred r) (omega arith) w (omega arith) in omega arith;
-  }
+of-the-tables : {t : Tables} {call : Call} {o : Outcome} → Performed t call o → o .answer .next ≡ next (o .tables)
+of-the-tables (refusing status d i) = refl
+of-the-tables (done value after i v) = refl
+of-the-tables (began after i) = refl
 
-  concluded : Origin (t .tasks) (length (t .tasks)) q p → NextIs t q
-  concluded (unchosen z e) = nobody z (none-ready e)
-  concluded (chosen c) = somebody (most-urgent c)
-
-pub next-is : (t : Tables) → NextIs t (next t)
-unfolding next ScannedAll
-next-is t = concluded t _ (end .0) (end .1) (end .1 .origin)
-  where
-    end : ScannedAll (t .tasks) (mostUrgent (t .tasks) 1 0 (suc maxPriority))
-    end = scan (t .tasks) (t .tasks) 0 0 (suc maxPriority) refl (omega arith) (unscanned (t .tasks))
-
--- priorities of agreeing tables are at most 255, so that with no next task every task waits
-within-range : (t : Tables) → agrees t ≡ true → (r : ℕ) → 1 ≤ r → r ≤ length (t .tasks) → at (t .tasks) (pred r) .priority ≤ maxPriority
-unfolding agrees numbersFit
-within-range t a r l h =
-    leb-true _ _ (and-both _ _ (and-both _ _ (all-at _ _ (and-both _ _ (and-both _ _ (and-both _ _ a .1) .0) .0) (pred r) (omega arith)) .0) .1)
-
-pub nobody-ready : (t : Tables) → agrees t ≡ true → next t ≡ 0 → (r : ℕ) → 1 ≤ r → r ≤ length (t .tasks) → waits (taskOf t r) ≡ true
-nobody-ready t a e r l h = go (next-is t)
-  where
-    go : NextIs t (next t) → waits (taskOf t r) ≡ true
-    go (nobody z f) =
-        ⊎-elim (λ (w : waits (taskOf t r) ≡ true). w) (λ (p : maxPriority < taskOf t r .priority). absurd (omega (arith, within-range t a r l h))) (f r l h)
-    go (somebody m) = absurd (omega arith)
+pub answered-next : (t : Tables) (call : Call) (priorities : List ℕ) → callFits call ≡ true → Agrees t
+    → let o = step t call priorities in NextIs (o .tables) (o .answer .next)
+unfolding step
+answered-next t call priorities fits a =
+    let o = perform t call priorities in
+    let served : step t call priorities ≡ o = if-yes _ _ (agrees-true t a) in
+    let agreed : Agrees (o .tables) = subst (λ (x : Outcome). Agrees (x .tables)) served (kept t call priorities fits a) in
+    subst (λ (x : Outcome). NextIs (x .tables) (x .answer .next)) (sym served)
+    (subst (NextIs (o .tables)) (sym (of-the-tables (performed t call priorities))) (next-is (o .tables) agreed))

@@ -55,7 +55,7 @@ found call (w ∷ ws) status k i =
 
 -- tables that do not agree; two tasks and a slot; with a semaphore in it; with task 1 waiting on one
 abbrev broken : Tables
-broken = record { tasks = []; slots = freeSlot 0 ∷ [] }
+broken = record { tasks = []; slots = freeSlot 0 ∷ []; ready = [] }
 
 abbrev fresh : Tables
 fresh = tablesOf (startWith 1 (1 ∷ 2 ∷ []) ∷ [])

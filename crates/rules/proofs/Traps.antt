@@ -1,4 +1,4 @@
--- Document 01's cases "Run by a program" and "Ways to get it nearly right", computed on the rules.
+-- Document 01's cases "Run by a program" and "Ways to get it nearly right", and the sequence of request 1, computed on the rules.
 use mathlib.Core.Path.{_≡_, refl}
 use mathlib.Core.List.{List, [], _∷_, map}
 use Prim.Native.Nat.{ℕ}
@@ -110,7 +110,7 @@ options =
     ∷ (ask (Delete 3 first) gives says 0 0 1)
     ∷ []
 
--- equal priorities are served by arrival, and the lowest of equal tasks is next
+-- equal priorities are served by arrival, and of equal tasks the one that has been ready longest is next
 abbrev arrivals : List Line
 arrivals =
     three 5 5 9
@@ -118,7 +118,7 @@ arrivals =
     ∷ (obtains 2 first 0 0 gives says 100 0 1)
     ∷ (obtains 1 first 0 0 gives says 100 0 3)
     ∷ (ask (Release 3 first) gives says 0 0 2)
-    ∷ (ask (Release 3 first) gives says 0 0 1)
+    ∷ (ask (Release 3 first) gives says 0 0 2)
     ∷ []
 
 -- PRIORITY serves the least priority number first; the answers tell by the next task
@@ -189,8 +189,44 @@ reused =
     ∷ (obtains 1 again 0 0 gives says 0 0 1)
     ∷ []
 
+-- a flush and a delete wake in queue order, here 3 and then 1, of equal priority
+abbrev inQueueOrder : List Line
+inQueueOrder =
+    (startWith 1 (5 ∷ 9 ∷ 5 ∷ []) gives says 0 0 1)
+    ∷ (ask (Create 2 7 0 4) gives says 0 first 1)
+    ∷ (obtains 3 first 0 0 gives says 100 0 1)
+    ∷ (obtains 1 first 0 0 gives says 100 0 2)
+    ∷ (ask (Flush 2 first) gives says 0 0 3)
+    ∷ (obtains 3 first 0 0 gives says 100 0 1)
+    ∷ (obtains 1 first 0 0 gives says 100 0 2)
+    ∷ (ask (Delete 2 first) gives says 0 0 3)
+    ∷ []
+
+-- a tick wakes in task number order, although the queue has 3 before 1
+abbrev inTaskOrder : List Line
+inTaskOrder =
+    (startWith 1 (5 ∷ 9 ∷ 5 ∷ []) gives says 0 0 1)
+    ∷ (ask (Create 2 7 0 4) gives says 0 first 1)
+    ∷ (obtains 3 first 0 1 gives says 100 0 1)
+    ∷ (obtains 1 first 0 1 gives says 100 0 2)
+    ∷ (ask Tick gives says 0 0 1)
+    ∷ []
+
+-- the last of equals is not taken, and a call that begins and ends no wait moves nobody: an obtain that is done, or polls and is 13
+abbrev unmoved : List Line
+unmoved =
+    three 5 5 5
+    ∷ (ask (Create 1 7 1 0) gives says 0 first 1)
+    ∷ (obtains 1 first 0 0 gives says 0 0 1)
+    ∷ (obtains 1 first 1 0 gives says 13 0 1)
+    ∷ (ask (Release 1 first) gives says 0 0 1)
+    ∷ (ask Tick gives says 0 0 1)
+    ∷ []
+
 abbrev runs : List (List Line)
-runs = starts ∷ creates ∷ callers ∷ interrupts ∷ timeouts ∷ options ∷ arrivals ∷ urgent ∷ inTurn ∷ nests ∷ simples ∷ flushes ∷ reused ∷ []
+runs =
+    starts ∷ creates ∷ callers ∷ interrupts ∷ timeouts ∷ options ∷ arrivals ∷ urgent ∷ inTurn ∷ nests ∷ simples ∷ flushes ∷ reused
+    ∷ inQueueOrder ∷ inTaskOrder ∷ unmoved ∷ []
 
 -- what the calls answer in each run
 Traps : map (λ run. answersOf (requests run)) runs ≡ map expected runs
@@ -206,19 +242,29 @@ live generation name attributes owner nest queue =
 
 -- every number of the tables that five of the runs leave
 Leftovers : map (λ run. tablesOf (requests run)) (timeouts ∷ inTurn ∷ nests ∷ simples ∷ reused ∷ [])
-    ≡ record { tasks = ready 1 6 ∷ ready 2 6 ∷ ready 3 0 ∷ []; slots = live 1 7 0 0 0 [] ∷ freeSlot 0 ∷ [] }
-    ∷ record { tasks = ready 5 0 ∷ record { priority = 4; answer = 100; awaited = first; ticks = 0 } ∷ ready 9 0 ∷ []; slots = live 1 7 0 0 0 (2 ∷ []) ∷ [] }
-    ∷ record { tasks = ready 1 0 ∷ ready 2 13 ∷ ready 3 0 ∷ []; slots = live 1 7 20 1 1 [] ∷ freeSlot 0 ∷ [] }
-    ∷ record { tasks = ready 1 13 ∷ ready 2 0 ∷ ready 3 0 ∷ []; slots = live 1 7 32 0 0 [] ∷ freeSlot 0 ∷ [] }
-    ∷ record { tasks = ready 1 7 ∷ ready 2 0 ∷ ready 3 0 ∷ []; slots = live 2 8 0 0 0 [] ∷ freeSlot 0 ∷ [] }
+    ≡ record { tasks = ready 1 6 ∷ ready 2 6 ∷ ready 3 0 ∷ []; slots = live 1 7 0 0 0 [] ∷ freeSlot 0 ∷ []; ready = 3 ∷ 1 ∷ 2 ∷ [] }
+    ∷ record {
+      tasks = ready 5 0 ∷ record { priority = 4; answer = 100; awaited = first; ticks = 0 } ∷ ready 9 0 ∷ [];
+      slots = live 1 7 0 0 0 (2 ∷ []) ∷ [];
+      ready = 3 ∷ 1 ∷ [];
+    }
+    ∷ record { tasks = ready 1 0 ∷ ready 2 13 ∷ ready 3 0 ∷ []; slots = live 1 7 20 1 1 [] ∷ freeSlot 0 ∷ []; ready = 1 ∷ 3 ∷ 2 ∷ [] }
+    ∷ record { tasks = ready 1 13 ∷ ready 2 0 ∷ ready 3 0 ∷ []; slots = live 1 7 32 0 0 [] ∷ freeSlot 0 ∷ []; ready = 2 ∷ 3 ∷ 1 ∷ [] }
+    ∷ record { tasks = ready 1 7 ∷ ready 2 0 ∷ ready 3 0 ∷ []; slots = live 2 8 0 0 0 [] ∷ freeSlot 0 ∷ []; ready = 2 ∷ 3 ∷ 1 ∷ [] }
     ∷ []
 unfolding answersOf
 Leftovers = refl
 
+-- and the sequences that those on the sequence leave
+Sequences : map (λ run. tablesOf (requests run) .ready) (arrivals ∷ inQueueOrder ∷ inTaskOrder ∷ unmoved ∷ [])
+    ≡ (3 ∷ 2 ∷ 1 ∷ []) ∷ (2 ∷ 3 ∷ 1 ∷ []) ∷ (2 ∷ 1 ∷ 3 ∷ []) ∷ (1 ∷ 2 ∷ 3 ∷ []) ∷ []
+unfolding answersOf
+Sequences = refl
+
 -- numbers at their ends: a slot is not used again after generation 65535, and a nest stops at 4294967295
-Ends : answers (record { tasks = ready 1 0 ∷ []; slots = freeSlot 65534 ∷ [] })
+Ends : answers (record { tasks = ready 1 0 ∷ []; slots = freeSlot 65534 ∷ []; ready = 1 ∷ [] })
     (ask (Create 1 7 1 0) ∷ ask (Delete 1 4294901761) ∷ ask (Create 1 7 1 0) ∷ [])
-    ∷ answers (record { tasks = ready 1 0 ∷ []; slots = live 1 7 16 1 4294967295 [] ∷ [] })
+    ∷ answers (record { tasks = ready 1 0 ∷ []; slots = live 1 7 16 1 4294967295 [] ∷ []; ready = 1 ∷ [] })
     (obtains 1 first 0 0 ∷ ask (Release 1 first) ∷ obtains 1 first 0 0 ∷ [])
     ∷ []
     ≡ (says 0 4294901761 1 ∷ says 0 0 1 ∷ says 5 0 1 ∷ []) ∷ (says 13 0 1 ∷ says 0 0 1 ∷ says 0 0 1 ∷ []) ∷ []

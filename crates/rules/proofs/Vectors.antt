@@ -1,10 +1,10 @@
--- P1 to P14 of document 01.
+-- P1 to P14 of document 01, and P15 of request 1.
 use mathlib.Core.Path.{_≡_, refl}
 use mathlib.Core.List.{List, [], _∷_, _++_}
 use Prim.Native.Nat.{ℕ}
 use Rattle.rules.specs.declared.Call.the-variants.{Create, Delete, Release, Tick}
 use Rattle.rules.specs.Runs.{Request}
-use Rattle.rules.proofs.Asking.{Line, _gives_, ask, startWith, obtains, says, requests, expected, answersOf, lastOf}
+use Rattle.rules.proofs.Asking.{Line, _gives_, ask, startWith, obtains, says, requests, expected, answersOf, tablesOf, lastOf}
 
 -- P1 to P11
 abbrev pub worked : List Line
@@ -26,12 +26,30 @@ worked =
 abbrev pub one : ℕ → ℕ → List Request
 one count attributes = startWith 1 (5 ∷ []) ∷ ask (Create 1 77 count attributes) ∷ []
 
+-- P15: task 1 is ready again, but task 2 has been ready longer
+abbrev pub equals : List Line
+equals =
+    (startWith 1 (10 ∷ 10 ∷ []) gives says 0 0 1)
+    ∷ (ask (Create 1 77 0 0) gives says 0 65537 1)
+    ∷ (obtains 1 65537 0 0 gives says 100 0 2)
+    ∷ (ask (Release 2 65537) gives says 0 0 2)
+    ∷ []
+
 -- P12 counting at 4294967295, P13 simple binary at 1, P14 unowned binary
-pub P1-P14 : answersOf (requests worked)
+pub P1-P15 : answersOf (requests worked)
     ++ lastOf (one 4294967295 0) (ask (Release 1 65537))
     ∷ lastOf (one 1 32) (ask (Release 0 65537))
     ∷ lastOf (one 1 16) (ask (Release 0 65537))
-    ∷ []
-    ≡ expected worked ++ says 13 0 1 ∷ says 13 0 1 ∷ says 23 0 1 ∷ []
+    ∷ answersOf (requests equals)
+    ≡ expected worked ++ says 13 0 1 ∷ says 13 0 1 ∷ says 23 0 1 ∷ expected equals
 unfolding answersOf
-P1-P14 = refl
+P1-P15 = refl
+
+-- the tables that P15 leaves: both tasks are ready, task 2 the longer
+pub P15-leaves : tablesOf (requests equals) ≡ record {
+  tasks = record { priority = 10; answer = 0; awaited = 0; ticks = 0 } ∷ record { priority = 10; answer = 0; awaited = 0; ticks = 0 } ∷ [];
+  slots = record { generation = 1; live = 1; name = 77; attributes = 0; count = 0; owner = 0; nest = 0; queue = [] } ∷ [];
+  ready = 2 ∷ 1 ∷ [];
+}
+unfolding answersOf
+P15-leaves = refl

@@ -1,5 +1,5 @@
--- Document 01: when tables agree, a test for each clause. That the lent memory has its layout's length, and that everything beyond
--- N, S and a queue's length is 0, is said of the bytes: `isLaid` of crates/tables/specs/Layout.antt.
+-- Document 01, with the ready sequence of request 1: when tables agree, a test for each clause. That the lent memory has its layout's length, and that everything beyond
+-- N, S, a queue's length and the sequence's is 0, is said of the bytes: `isLaid` of crates/tables/specs/Layout.antt.
 use mathlib.Core.Path.{_≡_}
 use mathlib.Core.Bool.{Bool, true}
 use mathlib.Core.List.{List, [], _∷_}
@@ -10,7 +10,7 @@ use Rattle.laws.specs.Choose.{_and_, _or_, isnt, when, bit}
 use Rattle.laws.specs.All.{all}
 use Rattle.rules.specs.declared.Task.{Task}
 use Rattle.rules.specs.Numbers.{maxTasks, maxSlots, maxPriority, maxGeneration, maxNumber, within, allowed, byPriority, isBinary, isSimple}
-use Rattle.rules.specs.Machine.{Slot, Tables, taskOf, slotOf, waits, isLive, idOf, names, urgency}
+use Rattle.rules.specs.Machine.{Slot, Tables, taskOf, slotOf, isTask, waits, isLive, idOf, names, urgency}
 
 -- a test of each task and its number, of each slot and its number, of each live slot and its number
 abbrev pub eachTask : Tables → (ℕ → Task → Bool) → Bool
@@ -22,14 +22,18 @@ eachSlot t p = all (length (t .slots)) (λ i. p (suc i) (slotOf t (suc i)))
 abbrev pub eachLive : Tables → (ℕ → Slot → Bool) → Bool
 eachLive t p = eachSlot t (λ n s. when (isLive s) (p n s))
 
--- how often a task stands in a queue
+-- how often a task stands in a queue, or in the sequence of ready tasks
 unfoldable pub occurs : ℕ → List ℕ → ℕ
 occurs q [] = 0
 occurs q (x ∷ xs) = bit (eqb q x) + occurs q xs
 
 -- q is a task that waits on the identifier
 abbrev pub isWaiter : Tables → ℕ → ℕ → Bool
-isWaiter t id q = within 1 (length (t .tasks)) q and waits (taskOf t q) and eqb (taskOf t q .awaited) id
+isWaiter t id q = isTask t q and waits (taskOf t q) and eqb (taskOf t q .awaited) id
+
+-- q is a task that is ready
+abbrev pub isReadyTask : Tables → ℕ → Bool
+isReadyTask t q = isTask t q and isnt (waits (taskOf t q))
 
 -- N and S: both 0 before start
 abbrev pub countsFit : ℕ → ℕ → Bool
@@ -98,7 +102,7 @@ isClear s =
 unfoldable pub sizesFit : Tables → Bool
 sizesFit t = countsFit (length (t .tasks)) (length (t .slots))
 
--- every other number is within its limits; those of answers, attributes, owners and queues follow from the clauses below
+-- every other number is within its limits; those of answers, attributes, owners, queues and the sequence follow from the clauses below
 unfoldable pub numbersFit : Tables → Bool
 numbersFit t = eachTask t (λ q v. taskInLimits v) and eachSlot t (λ n s. slotInLimits s)
 
@@ -140,6 +144,14 @@ readyAtRest t = eachTask t (λ q v. when (isnt (waits v)) (isAtRest v))
 unfoldable pub freeSlotsClear : Tables → Bool
 freeSlotsClear t = eachSlot t (λ n s. when (isnt (isLive s)) (isClear s))
 
+-- each ready task stands once in the sequence
+unfoldable pub readySequenced : Tables → Bool
+readySequenced t = eachTask t (λ q v. when (isnt (waits v)) (eqb (occurs q (t .ready)) 1))
+
+-- the sequence holds nothing else
+unfoldable pub sequenceReady : Tables → Bool
+sequenceReady t = all (length (t .ready)) (λ k. isReadyTask t (getD (t .ready) k 0))
+
 -- the tables agree: every clause holds but the two of the bytes, which `agreesBytes` of crates/agreement adds
 pub record Agrees (t : Tables) : Type 0 where
   pub sizes : sizesFit t ≡ true
@@ -155,9 +167,12 @@ pub record Agrees (t : Tables) : Type 0 where
   pub unowned : othersRight t ≡ true
   pub atRest : readyAtRest t ≡ true
   pub clear : freeSlotsClear t ≡ true
+  pub sequenced : readySequenced t ≡ true
+  pub onlyReady : sequenceReady t ≡ true
 
 -- the same as one test
 unfoldable pub agrees : Tables → Bool
 agrees t =
     sizesFit t and numbersFit t and answersFit t and liveNamed t and attributesAllowed t and waitersQueued t and queuesWait t
     and queuesOrdered t and queuedAtZero t and binariesRight t and othersRight t and readyAtRest t and freeSlotsClear t
+    and readySequenced t and sequenceReady t

@@ -1,12 +1,13 @@
--- Document 01: the eight calls, step by step, and the whole step with the test for 25. Checks give a status, or 0 for no refusal.
+-- Document 01, with the ready sequence of request 1: the eight calls, step by step, and the whole step with the test for 25. Checks give a status, or 0 for no refusal.
 -- The numbers of a call are those of 32 bits, which `callFits` of Fits.antt says; the definitions do not depend on it, that agreement is kept does.
 use mathlib.Core.Bool.{Bool}
-use mathlib.Core.List.{List, [], _∷_, map}
+use mathlib.Core.List.{List, [], _∷_, _++_, map}
 use Prim.Native.Nat.{ℕ, suc, _+_, _-_, _%_}
 use lib.Dec.{leb, ltb, eqb}
 use lib.ListN.{length, getD, replicate}
 use Rattle.laws.specs.Choose.{choose, _and_, _or_, isnt}
 use Rattle.laws.specs.All.{all}
+use Rattle.laws.specs.Rows.{tabulate}
 use Rattle.rules.specs.declared.Task.{Task}
 use Rattle.rules.specs.declared.Wait.{Wait}
 use Rattle.rules.specs.declared.Call.{Call}
@@ -15,7 +16,7 @@ use Rattle.rules.specs.declared.Answer.{Answer}
 use Rattle.rules.specs.Numbers.{maxTasks, maxSlots, maxPriority, maxGeneration, within, allowed, isBinary, isSimple, successful}
 use Rattle.rules.specs.Numbers.{invalidName, invalidId, tooMany, timeout, objectWasDeleted, invalidNumber, notDefined, resourceInUse}
 use Rattle.rules.specs.Numbers.{unsatisfied, incorrectState, calledFromIsr, invalidPriority, internalError, waiting}
-use Rattle.rules.specs.Machine.{Slot, Tables, freeSlot, withTasks, withSlots, taskOf, slotOf, putTask, putSlot, waits, isLive}
+use Rattle.rules.specs.Machine.{Slot, Tables, freeSlot, withReady, taskOf, slotOf, putTask, putSlot, waits, isLive}
 use Rattle.rules.specs.Machine.{urgency, idOf, names, slotNamed, next}
 use Rattle.rules.specs.Agreement.{agrees}
 use Rattle.rules.specs.Semaphore.{ticksOf, placeOf, requeued, takeStep, giveStep, flushStep}
@@ -46,12 +47,13 @@ taskOnly t caller rest = choose (eqb caller 0) calledFromIsr (choose (eqb (calle
 abbrev pub anyCaller : Tables → ℕ → ℕ → ℕ
 anyCaller t caller rest = choose (isnt (eqb caller 0) and isnt (eqb (callerRefusal t caller) 0)) (callerRefusal t caller) rest
 
--- a wait ends: the task is ready, with the wait's answer
+-- a task whose wait ends: it is ready, with the wait's answer
 abbrev pub readied : Task → ℕ → Task
 readied v answer = record { priority = v .priority; answer = answer; awaited = 0; ticks = 0 }
 
+-- a wait ends: the task joins the end of the sequence
 abbrev pub wake : Tables → ℕ → ℕ → Tables
-wake t q answer = putTask t q (readied (taskOf t q) answer)
+wake t q answer = withReady (putTask t q (readied (taskOf t q) answer)) (t .ready ++ q ∷ [])
 
 -- the waiters are woken in queue order
 unfoldable pub wakeAll : Tables → List ℕ → ℕ → Tables
@@ -70,9 +72,14 @@ startRefusal t slots priorities =
 abbrev pub newTask : ℕ → Task
 newTask p = record { priority = p; answer = 0; awaited = 0; ticks = 0 }
 
--- N is the number of priorities
+-- 1 to n
+abbrev pub upTo : ℕ → List ℕ
+upTo n = tabulate n suc
+
+-- N is the number of priorities, and the sequence is 1 to N
 unfoldable pub started : ℕ → List ℕ → Tables
-started slots priorities = record { tasks = map newTask priorities; slots = replicate slots (freeSlot 0) }
+started slots priorities =
+    record { tasks = map newTask priorities; slots = replicate slots (freeSlot 0); ready = upTo (length priorities) }
 
 unfoldable pub start : Tables → ℕ → List ℕ → Outcome
 start t slots priorities =
@@ -148,6 +155,15 @@ delete t caller id =
 
 -- ---- obtain: 18, 4, 14, then 4, 13
 
+-- a sequence without task q
+unfoldable pub without : ℕ → List ℕ → List ℕ
+without q [] = []
+without q (x ∷ xs) = let rest = without q xs in choose (eqb q x) rest (x ∷ rest)
+
+-- a wait begins: the task leaves the sequence
+abbrev pub beginWait : Tables → ℕ → Task → Tables
+beginWait t q v = withReady (putTask t q v) (without q (t .ready))
+
 -- the caller waits on the identifier
 abbrev pub blocked : Task → ℕ → Wait → Task
 blocked v id wait = record { priority = v .priority; answer = waiting; awaited = id; ticks = ticksOf wait }
@@ -168,7 +184,7 @@ obtain t caller id wait =
     let held = putSlot t n (taken .slot) in
     unless (obtainRefusal t caller id wait) t
     (choose (eqb (taken .status) waiting)
-    (answered waiting 0 (putTask held caller (blocked (taskOf t caller) id wait)))
+    (answered waiting 0 (beginWait held caller (blocked (taskOf t caller) id wait)))
     (answered successful 0 held))
 
 -- ---- release: 4, 14, then 4, 23, 13
@@ -218,9 +234,18 @@ stillWaiting t (q ∷ qs) = let rest = stillWaiting t qs in choose (expires (tas
 unfoldable pub tickedSlot : Tables → Slot → Slot
 tickedSlot t s = requeued s (stillWaiting t (s .queue))
 
--- queues lose the tasks whose wait ends, and each task is a tick later
+-- from task q on, the tasks whose wait this tick ends, in task number order
+unfoldable pub timedOut : List Task → ℕ → List ℕ
+timedOut [] q = []
+timedOut (v ∷ vs) q = let rest = timedOut vs (suc q) in choose (expires v) (q ∷ rest) rest
+
+-- queues lose the tasks whose wait ends, each task is a tick later, and those whose wait ends join the end of the sequence
+abbrev pub tickedTables : Tables → Tables
+tickedTables t =
+    record { tasks = map ticked (t .tasks); slots = map (tickedSlot t) (t .slots); ready = t .ready ++ timedOut (t .tasks) 1 }
+
 unfoldable pub tick : Tables → Outcome
-tick t = answered successful 0 (withSlots (withTasks t (map ticked (t .tasks))) (map (tickedSlot t) (t .slots)))
+tick t = answered successful 0 (tickedTables t)
 
 -- ---- the whole step
 

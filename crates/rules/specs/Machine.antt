@@ -1,13 +1,13 @@
--- Document 01: a task, a slot, the tables, the identifier, the next task.
+-- Document 01: a task, a slot, the tables, the identifier; request 1: the sequence of ready tasks, the next task.
 -- Tasks and slots are counted from 1; 0 is none. `taskOf t 0` and `slotOf t 0` are the first record, and nothing of such a look reaches an answer or the tables.
 use mathlib.Core.Bool.{Bool}
 use mathlib.Core.List.{List, [], _∷_}
 use Prim.Native.Nat.{ℕ, suc, pred, _+_, _*_, _/_, _%_}
 use lib.Dec.{leb, ltb, eqb}
 use lib.ListN.{length, getD, set}
-use Rattle.laws.specs.Choose.{choose, _and_, isnt}
+use Rattle.laws.specs.Choose.{choose, _and_}
 use Rattle.rules.specs.declared.Task.{Task}
-use Rattle.rules.specs.Numbers.{maxPriority, waiting}
+use Rattle.rules.specs.Numbers.{maxPriority, within, waiting}
 
 pub record Slot : Type 0 where
   -- goes up by one with each create in the slot, so that no identifier comes twice
@@ -28,16 +28,21 @@ pub record Slot : Type 0 where
 pub record Tables : Type 0 where
   pub tasks : List Task
   pub slots : List Slot
+  -- the numbers of the ready tasks, the longest ready first
+  pub ready : List ℕ
 
 abbrev pub unstarted : Tables
-unstarted = record { tasks = []; slots = [] }
+unstarted = record { tasks = []; slots = []; ready = [] }
 
--- the same tables with other tasks, and with other slots
+-- the same tables with other tasks, with other slots, and with another sequence
 abbrev pub withTasks : Tables → List Task → Tables
-withTasks t tasks = record { tasks = tasks; slots = t .slots }
+withTasks t tasks = record { tasks = tasks; slots = t .slots; ready = t .ready }
 
 abbrev pub withSlots : Tables → List Slot → Tables
-withSlots t slots = record { tasks = t .tasks; slots = slots }
+withSlots t slots = record { tasks = t .tasks; slots = slots; ready = t .ready }
+
+abbrev pub withReady : Tables → List ℕ → Tables
+withReady t ready = record { tasks = t .tasks; slots = t .slots; ready = ready }
 
 -- what a look beyond N or S finds
 abbrev pub noTask : Task
@@ -58,6 +63,10 @@ putTask t q v = withTasks t (set (t .tasks) (pred q) v)
 abbrev pub putSlot : Tables → ℕ → Slot → Tables
 putSlot t n s = withSlots t (set (t .slots) (pred n) s)
 
+-- q is the number of one of the N tasks
+abbrev pub isTask : Tables → ℕ → Bool
+isTask t q = within 1 (length (t .tasks)) q
+
 -- a task waits exactly while its answer is 100
 abbrev pub waits : Task → Bool
 waits v = eqb (v .answer) waiting
@@ -65,7 +74,7 @@ waits v = eqb (v .answer) waiting
 abbrev pub isLive : Slot → Bool
 isLive s = eqb (s .live) 1
 
--- the priority number that a queue with PRIORITY goes by: the least is served first
+-- the priority number that a queue with PRIORITY and the next task go by: the least is the most urgent
 abbrev pub urgency : Tables → ℕ → ℕ
 urgency t q = taskOf t q .priority
 
@@ -83,13 +92,13 @@ names t id =
 abbrev pub slotNamed : Tables → ℕ → ℕ
 slotNamed t id = choose (names t id) (id % 65536) 0
 
--- from task q on: `best` is the most urgent ready task before q, of priority p; 0 and 256 where there is none yet
-unfoldable pub mostUrgent : List Task → ℕ → ℕ → ℕ → ℕ
-mostUrgent [] q best p = best
-mostUrgent (v ∷ vs) q best p =
-    let better = isnt (waits v) and ltb (v .priority) p in
-    mostUrgent vs (suc q) (choose better q best) (choose better (v .priority) p)
+-- from there on in a sequence: `best` is the first of the least priority number before, which is p; 0 and 256 where there is none yet
+unfoldable pub mostUrgent : Tables → List ℕ → ℕ → ℕ → ℕ
+mostUrgent t [] best p = best
+mostUrgent t (q ∷ qs) best p =
+    let better = isTask t q and ltb (urgency t q) p in
+    mostUrgent t qs (choose better q best) (choose better (urgency t q) p)
 
--- the ready task with the least priority number, among equals the lowest task number, or 0 if none is ready
+-- of the tasks in the sequence of ready tasks the first of the least priority number, or 0 if there is none
 unfoldable pub next : Tables → ℕ
-next t = mostUrgent (t .tasks) 1 0 (suc maxPriority)
+next t = mostUrgent t (t .ready) 0 (suc maxPriority)

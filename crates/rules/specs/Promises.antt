@@ -1,20 +1,21 @@
--- Document 01: what holds of every call's answer.
+-- Document 01: what holds of every call's answer; request 1: the next task, and the sequence after every call.
 use mathlib.Core.Path.{_≡_}
 use mathlib.Core.Bool.{Bool, true, false}
-use mathlib.Core.List.{List, [], _∷_}
-use mathlib.Core.Logic.{_⊎_}
+use mathlib.Core.List.{List, [], _∷_, _++_}
 use Prim.Native.Nat.{ℕ, _≤_, _<_}
 use lib.Dec.{eqb}
-use lib.ListN.{length}
-use Rattle.laws.specs.Choose.{choose, _or_}
+use lib.ListN.{length, getD, take}
+use Rattle.laws.specs.Choose.{choose, _and_, _or_, isnt}
+use Rattle.laws.specs.All.{those}
 use Rattle.rules.specs.declared.Call.{Call}
 use Rattle.rules.specs.declared.Answer.{Answer}
 use Rattle.rules.specs.declared.Call.the-variants.{Start, Create, Ident, Delete, Obtain, Release, Flush, Tick}
-use Rattle.rules.specs.Numbers.{maxPriority, maxGeneration, successful, invalidName, invalidId, tooMany, invalidNumber, notDefined}
+use Rattle.rules.specs.Numbers.{maxGeneration, successful, invalidName, invalidId, tooMany, invalidNumber, notDefined}
 use Rattle.rules.specs.Numbers.{resourceInUse, unsatisfied, incorrectState, calledFromIsr, invalidPriority, notOwnerOfResource, internalError}
 use Rattle.rules.specs.Numbers.{waiting}
-use Rattle.rules.specs.Machine.{Tables, taskOf, slotOf, waits, isLive, next}
-use Rattle.rules.specs.Calls.{Outcome}
+use Rattle.rules.specs.Machine.{Tables, slotOf, isLive, urgency, slotNamed, next}
+use Rattle.rules.specs.Agreement.{isReadyTask}
+use Rattle.rules.specs.Calls.{Outcome, upTo}
 use Rattle.rules.specs.Runs.{Request, stepOf}
 
 -- a refusal changes nothing, its value is 0, and the next task is as it is, with 25 none
@@ -77,19 +78,41 @@ pub record SomeGives (call : Call) (status : ℕ) : Type 0 where
   pub sameKind : kindOf (request .call) ≡ kindOf call
   pub gives : stepOf tables request .answer .status ≡ status
 
--- q is ready and, of the ready tasks, the one with the least priority number, among equals the lowest task number
-pub record MostUrgent (t : Tables) (q : ℕ) : Type 0 where
-  pub low : 1 ≤ q
-  pub high : q ≤ length (t .tasks)
-  pub ready : waits (taskOf t q) ≡ false
-  pub inRange : taskOf t q .priority ≤ maxPriority
-  pub least : (r : ℕ) → 1 ≤ r → r ≤ length (t .tasks) → waits (taskOf t r) ≡ false → taskOf t q .priority ≤ taskOf t r .priority
-  pub lowest : (r : ℕ) → 1 ≤ r → r ≤ length (t .tasks) → waits (taskOf t r) ≡ false → taskOf t r .priority ≡ taskOf t q .priority → q ≤ r
+-- ---- the next task, and the sequence of ready tasks
 
--- the next task, or 0 where every task waits; priorities above 255, which no agreeing tables have, count as waiting
+-- q is a ready task of the least priority number, and of these the first in the sequence
+pub record MostUrgent (t : Tables) (q : ℕ) : Type 0 where
+  pub ready : isReadyTask t q ≡ true
+  pub least : (r : ℕ) → isReadyTask t r ≡ true → urgency t q ≤ urgency t r
+  pub place : ℕ
+  pub inside : place < length (t .ready)
+  pub here : getD (t .ready) place 0 ≡ q
+  pub first : (k : ℕ) → k < place → urgency t q < urgency t (getD (t .ready) k 0)
+
+-- the next task, or 0 where every task waits
 pub data NextIs (t : Tables) (q : ℕ) : Type 0 where
-  nobody : q ≡ 0 → ((r : ℕ) → 1 ≤ r → r ≤ length (t .tasks) → (waits (taskOf t r) ≡ true) ⊎ (maxPriority < taskOf t r .priority)) → NextIs t q
+  nobody : q ≡ 0 → ((r : ℕ) → isReadyTask t r ≡ false) → NextIs t q
   somebody : MostUrgent t q → NextIs t q
+
+-- who may join the sequence at a call, in which order, from tables t to u: at a delete and a flush the semaphore's queue, at a release the first of it,
+-- at a start and a tick all tasks by their numbers, at the other calls nobody
+unfoldable pub joining : Tables → Call → Tables → List ℕ
+joining t (Start slots) u = upTo (length (u .tasks))
+joining t (Create caller name count attributes) u = []
+joining t (Ident name) u = []
+joining t (Delete caller id) u = slotOf t (slotNamed t id) .queue
+joining t (Obtain caller id wait) u = []
+joining t (Release caller id) u = take 1 (slotOf t (slotNamed t id) .queue)
+joining t (Flush caller id) u = slotOf t (slotNamed t id) .queue
+joining t Tick u = upTo (length (u .tasks))
+
+-- q was not a ready task, and is one now
+abbrev pub becomesReady : Tables → Tables → ℕ → Bool
+becomesReady t u q = isReadyTask u q and isnt (isReadyTask t q)
+
+-- the sequence that a call leaves: those that were ready before and still are, in their old order, and then those that it made ready
+unfoldable pub sequenceAfter : Tables → Call → Tables → List ℕ
+sequenceAfter t call u = those (isReadyTask u) (t .ready) ++ those (becomesReady t u) (joining t call u)
 
 -- ---- identifiers and slots that do not come back
 

@@ -1,6 +1,11 @@
 // The records of calls and tables; specs/ has the rules of document 01 over them.
 ghost use mathlib.Core.Path.{_≡_};
+ghost use mathlib.Core.Bool.{true};
+ghost use mathlib.Core.List.{List, _∷_};
+ghost use Prim.Native.Nat.{ℕ};
+ghost use lib.ListN.{length};
 ghost use Rattle.rules.specs.Numbers.{allowed, byPriority, isBinary, isSimple};
+ghost use Rattle.rules.specs.Machine.{Tables, isTask, urgency, mostUrgent};
 ghost use Rattle.rules.specs.Semaphore.{waitOf};
 
 // Status numbers: those of the RTEMS Classic headers, and our own 100.
@@ -177,4 +182,33 @@ pub fn is_simple(attributes: u32) -> bool
         return true;
     }
     attributes == 36
+}
+
+// A number above every priority.
+pub const ABOVE_ALL: u32 = 256;
+
+// The first task of the least priority number among those seen so far, 0 for none, and that number.
+pub struct Best {
+    pub task: u32,
+    pub priority: u32,
+}
+
+// The best so far and task q, who follows in the sequence, of so many tasks. A number that is no task's is passed over.
+pub fn better(best: Best, tasks: usize, q: u32, priority: u32) -> Best
+    ensures { λ r. ⌜ ((t : Tables) (qs : List ℕ) → length (t .tasks) ≡ tasks → (isTask t q ≡ true → urgency t q ≡ priority)
+        → mostUrgent t qs (r .task) (r .priority) ≡ mostUrgent t (q ∷ qs) (best .task) (best .priority)) ⌝ }
+{
+    if q == 0 {
+        return best;
+    }
+    if tasks < q as usize {
+        return best;
+    }
+    if best.priority <= priority {
+        return best;
+    }
+    Best {
+        task: q,
+        priority: priority,
+    }
 }

@@ -14,10 +14,10 @@ use Rattle.laws.proofs.Choose.{choose-cases, and-both, both-and, never, if-yes,
 use Rattle.rules.specs.declared.Task.{Task}
 use Rattle.rules.specs.declared.Wait.{Wait}
 use Rattle.rules.specs.Numbers.{isBinary, maximum, maxNumber}
-use Rattle.rules.specs.Machine.{Slot, Tables, noTask, freeSlot, slotOf, putSlot, putTask, waits, isLive, idOf, names, slotNamed, urgency}
+use Rattle.rules.specs.Machine.{Slot, Tables, noTask, freeSlot, slotOf, putSlot, waits, isLive, idOf, names, slotNamed, urgency}
 use Rattle.rules.specs.Agreement.{occurs}
 use Rattle.rules.specs.Semaphore.{handed, ownedBy, polls, placeOf, Taken, takeStep, Given, giveStep, passStep}
-use Rattle.rules.specs.Calls.{Outcome, answered, refused, readied, blocked, wake, callerRefusal, anyCaller, taskOnly, obtainRefusal, obtain, releaseRefusal, release}
+use Rattle.rules.specs.Calls.{Outcome, answered, refused, readied, beginWait, blocked, wake, callerRefusal, anyCaller, taskOnly, obtainRefusal, obtain, releaseRefusal, release}
 use Rattle.rules.proofs.Invariants.Lists.{occurs-at, Updated, set-updated, updated-cases}
 use Rattle.rules.proofs.Invariants.Facts.{nthTask, nthSlot, Unheld, Held, Facts, live-within}
 use Rattle.rules.proofs.Invariants.Links.{nowhere, place-of-id}
@@ -43,7 +43,7 @@ module _ (t : Tables) (c x : ℕ) (wait : Wait) where
   -- what a step of the semaphore in slot j leads to
   abbrev outcome : ℕ → Taken → Outcome
   outcome n taken =
-      choose (eqb (taken .status) 100) (answered 100 0 (putTask (putSlot t n (taken .slot)) (suc c) (blocked (nthTask t c) x wait)))
+      choose (eqb (taken .status) 100) (answered 100 0 (beginWait (putSlot t n (taken .slot)) (suc c) (blocked (nthTask t c) x wait)))
       (answered 0 0 (putSlot t n (taken .slot)))
 
   module _ (who : Caller t (suc c)) (j : ℕ) (l : isLive (nthSlot t j) ≡ true) (is : x ≡ idOf (suc j) (nthSlot t j)) where

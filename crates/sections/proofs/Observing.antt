@@ -17,10 +17,10 @@ use Rattle.rules.specs.declared.Call.the-variants.{Start, Create, Ident, Delete
 use Rattle.rules.specs.declared.Task.{Task}
 use Rattle.rules.specs.declared.Wait.{Wait}
 use Rattle.rules.specs.Numbers.{isBinary, maximum, allowed, isSimple}
-use Rattle.rules.specs.Machine.{Slot, Tables, noTask, freeSlot, taskOf, slotOf, putSlot, putTask, waits, isLive, idOf, names, slotNamed, urgency}
+use Rattle.rules.specs.Machine.{Slot, Tables, noTask, freeSlot, taskOf, slotOf, putSlot, waits, isLive, idOf, names, slotNamed, urgency}
 use Rattle.rules.specs.Agreement.{occurs}
 use Rattle.rules.specs.Semaphore.{handed, ownedBy, placeOf, Taken, takeStep, Given, giveStep, passStep, flushStep}
-use Rattle.rules.specs.Calls.{Outcome, answered, readied, blocked, wake, wakeAll, startRefusal, started, start, openSlot, createRefusal, newSemaphore, create, firstNamed, ident, deleteRefusal, delete, obtainRefusal, obtain, releaseRefusal, release, flushRefusal, flush, expires, ticked, tickedSlot, tick, perform}
+use Rattle.rules.specs.Calls.{Outcome, answered, readied, beginWait, blocked, wake, wakeAll, startRefusal, started, start, openSlot, createRefusal, newSemaphore, create, firstNamed, ident, deleteRefusal, delete, obtainRefusal, obtain, releaseRefusal, release, flushRefusal, flush, expires, ticked, tickedSlot, tick, perform}
 use Rattle.rules.proofs.Invariants.Lists.{occurs-at, getD-map}
 use Rattle.rules.proofs.Invariants.Facts.{nthTask, nthSlot, waitsOn, Unheld, Held, Facts, waits-within, live-within}
 use Rattle.rules.proofs.Invariants.Links.{SameWait, waits-there}
@@ -180,7 +180,7 @@ module _ (t : Tables) (f : Facts t) (i : ℕ) where
 
         outcome : ℕ → Outcome
         outcome n =
-            choose (eqb (taken n .status) 100) (answered 100 0 (putTask (putSlot t n (taken n .slot)) c (blocked (taskOf t c) id wait)))
+            choose (eqb (taken n .status) 100) (answered 100 0 (beginWait (putSlot t n (taken n .slot)) c (blocked (taskOf t c) id wait)))
             (answered 0 0 (putSlot t n (taken n .slot)))
 
         at : (j : ℕ) → isLive (nthSlot t j) ≡ true → (d : ℕ) → d ≡ c → 1 ≤ d → Observed t (outcome (suc j) .tables) i 0
@@ -191,7 +191,7 @@ module _ (t : Tables) (f : Facts t) (i : ℕ) where
             record {
               size = length-set (t .tasks) (pred c) (blocked (taskOf t c) id wait);
               task = inl (same-wait (getD-set-other (t .tasks) (pred c) i (blocked (taskOf t c) id wait) noTask apart));
-              slots = put-watched t (putTask (putSlot t (suc j) (taken (suc j) .slot)) c (blocked (taskOf t c) id wait)) i j (taken (suc j) .slot)
+              slots = put-watched t (beginWait (putSlot t (suc j) (taken (suc j) .slot)) c (blocked (taskOf t c) id wait)) i j (taken (suc j) .slot)
                   (live-within t j l) refl (taken-watched j (placeOf (urgency t) (nthSlot t j) c) wait l);
             })
             (λ e.

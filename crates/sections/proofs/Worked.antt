@@ -134,6 +134,6 @@ refused-4 : run made (handed (script 1 (counting 0 ∷ []) ∷ [])) (Turn 2 ∷ 
 unfolding seen
 refused-4 = refl
 
-refused-25 : run (record { tasks = made .tasks; slots = [] }) (handed []) (NoEvent ∷ []) .answer ≡ says 25 0 0
+refused-25 : run (record { tasks = made .tasks; slots = []; ready = made .ready }) (handed []) (NoEvent ∷ []) .answer ≡ says 25 0 0
 unfolding seen
 refused-25 = refl

@@ -11,7 +11,7 @@ use lib.Seq.{take-all, take-suc, getD-drop}
 use Rattle.laws.specs.Choose.{choose}
 use Rattle.laws.proofs.Choose.{if-yes, if-no, choose-cases}
 use Rattle.laws.specs.Rows.{fit}
-use Rattle.laws.proofs.Fit.{take-fit, set-fit-next}
+use Rattle.laws.proofs.Fit.{take-fit, set-fit-next, set-fit-end}
 use Rattle.rules.specs.Machine.{Tables, taskOf}
 use Rattle.rules.specs.Semaphore.{insertAt}
 use Rattle.rules.specs.Calls.{expires, stillWaiting}
@@ -26,13 +26,6 @@ module _ {A : Type 0} where
   fit-fit (suc n) zero d (x ∷ xs) h = absurd (not-suc-le-zero h)
   fit-fit (suc n) (suc m) d [] h = ap (λ (r : List A). d ∷ r) (fit-fit n m d [] (omega arith))
   fit-fit (suc n) (suc m) d (x ∷ xs) h = ap (λ (r : List A). x ∷ r) (fit-fit n m d xs (omega arith))
-
-  -- one more behind those in hand
-  pub set-fit-end : (n : ℕ) (d : A) (xs : List A) (x : A) → length xs < n → set (fit n d xs) (length xs) x ≡ fit n d (xs ++ x ∷ [])
-  unfolding fit
-  set-fit-end zero d xs x h = absurd (not-suc-le-zero h)
-  set-fit-end (suc n) d [] x h = refl
-  set-fit-end (suc n) d (y ∷ xs) x h = ap (λ (r : List A). y ∷ r) (set-fit-end n d xs x (omega arith))
 
   -- what a filled list holds is had by its number
   pub held : (n : ℕ) (d : A) (xs : List A) (w : ℕ) → w ≡ length xs → length xs ≤ n → take w (fit n d xs) ≡ xs

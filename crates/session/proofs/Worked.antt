@@ -1,4 +1,4 @@
--- P1 to P14 as the text of a session and the text of its answers, byte by byte.
+-- P1 to P15 as the text of a session and the text of its answers, byte by byte.
 use mathlib.Core.Path.{_≡_, refl}
 use mathlib.Core.List.{List, [], _∷_}
 use Prim.Native.Nat.{ℕ}
@@ -124,7 +124,32 @@ P14-output =
     ∷ 50 ∷ 51 ∷ 32 ∷ 48 ∷ 32 ∷ 49 ∷ 10
     ∷ []
 
-pub P12-P14-as-text : (session P12-input ≡ P12-output) × (session P13-input ≡ P13-output) × (session P14-input ≡ P14-output)
+abbrev pub P15-input : List ℕ
+P15-input =
+    -- start 1 10 10
+    115 ∷ 116 ∷ 97 ∷ 114 ∷ 116 ∷ 32 ∷ 49 ∷ 32 ∷ 49 ∷ 48 ∷ 32 ∷ 49 ∷ 48 ∷ 10
+    -- create 1 77 0 0
+    ∷ 99 ∷ 114 ∷ 101 ∷ 97 ∷ 116 ∷ 101 ∷ 32 ∷ 49 ∷ 32 ∷ 55 ∷ 55 ∷ 32 ∷ 48 ∷ 32 ∷ 48 ∷ 10
+    -- obtain 1 65537 0 0
+    ∷ 111 ∷ 98 ∷ 116 ∷ 97 ∷ 105 ∷ 110 ∷ 32 ∷ 49 ∷ 32 ∷ 54 ∷ 53 ∷ 53 ∷ 51 ∷ 55 ∷ 32 ∷ 48 ∷ 32 ∷ 48 ∷ 10
+    -- release 2 65537
+    ∷ 114 ∷ 101 ∷ 108 ∷ 101 ∷ 97 ∷ 115 ∷ 101 ∷ 32 ∷ 50 ∷ 32 ∷ 54 ∷ 53 ∷ 53 ∷ 51 ∷ 55 ∷ 10
+    ∷ []
+
+abbrev pub P15-output : List ℕ
+P15-output =
+    -- 0 0 1
+    48 ∷ 32 ∷ 48 ∷ 32 ∷ 49 ∷ 10
+    -- 0 65537 1
+    ∷ 48 ∷ 32 ∷ 54 ∷ 53 ∷ 53 ∷ 51 ∷ 55 ∷ 32 ∷ 49 ∷ 10
+    -- 100 0 2
+    ∷ 49 ∷ 48 ∷ 48 ∷ 32 ∷ 48 ∷ 32 ∷ 50 ∷ 10
+    -- 0 0 2
+    ∷ 48 ∷ 32 ∷ 48 ∷ 32 ∷ 50 ∷ 10
+    ∷ []
+
+pub P12-P15-as-text : (session P12-input ≡ P12-output) × (session P13-input ≡ P13-output) × (session P14-input ≡ P14-output)
+    × (session P15-input ≡ P15-output)
 unfolding answersOf fields allDigits spelled isNumber areNumbers numbers sameBytes requestOf lineOf digitsBefore decimal answerLine
     lines answerTo outputs session
-P12-P14-as-text = (refl, refl, refl)
+P12-P15-as-text = (refl, refl, refl, refl)

@@ -11,17 +11,17 @@ use Rattle.rules.specs.Machine.{Slot, Tables, noTask, freeSlot}
 use Rattle.tables.specs.Codec.{taskRow, slotRow}
 use Rattle.tables.specs.Layout.{layout, laid}
 use Rattle.tables.specs.Sizes.{Holds}
-use Rattle.tables.proofs.LayoutWords.{length-layout, task-word, slot-word, by-place}
+use Rattle.tables.proofs.LayoutWords.{length-layout, task-word, slot-word, ready-word, sequence-word, by-place}
 use Rattle.tables.proofs.LayoutRead.{limited-holds}
 
 pub laid-bytes : (t : Tables) → Holds t → Bytes (laid t)
 unfolding laid
 laid-bytes t h = bytes-below (layout t) (h .words)
 
-pub holds-bytes : (t : Tables) → length (t .tasks) ≤ 32 → length (t .slots) ≤ 64
+pub holds-bytes : (t : Tables) → length (t .tasks) ≤ 32 → length (t .slots) ≤ 64 → length (t .ready) ≤ 32
     → ((i : ℕ) → i < length (t .slots) → length (getD (t .slots) i (freeSlot 0) .queue) ≤ 32)
     → Bytes (laid t) → Holds t
-holds-bytes t n m q b = limited-holds t (record { tasks = n; slots = m; queues = q }) b
+holds-bytes t n m r q b = limited-holds t (record { tasks = n; slots = m; ready = r; queues = q }) b
 
 -- ---- rows of words below 2 ^ 32
 
@@ -45,15 +45,19 @@ slot-row-words s g l n a c o e few q (suc (suc (suc (suc (suc (suc (suc zero))))
 slot-row-words s g l n a c o e few q (suc (suc (suc (suc (suc (suc (suc (suc k)))))))) =
     words-within 32 (fit 32 0 (s .queue)) (length-fit 32 0 (s .queue)) (λ k b. rw (getD-fit 32 0 (s .queue) k b) (q k)) k
 
-pub holds-rows : (t : Tables) → length (t .tasks) ≤ 32 → length (t .slots) ≤ 64
+pub holds-rows : (t : Tables) → length (t .tasks) ≤ 32 → length (t .slots) ≤ 64 → length (t .ready) ≤ 32
     → ((i : ℕ) → i < length (t .slots) → length (getD (t .slots) i (freeSlot 0) .queue) ≤ 32)
     → ((i : ℕ) → Words (taskRow (getD (t .tasks) i noTask)))
     → ((i : ℕ) → Words (slotRow (getD (t .slots) i (freeSlot 0))))
+    → Words (t .ready)
     → Holds t
-holds-rows t n m q v s = record { limited = record { tasks = n; slots = m; queues = q }; words = words-within 2690 (layout t) (length-layout t) within }
+holds-rows t n m r q v s w =
+    record { limited = record { tasks = n; slots = m; ready = r; queues = q }; words = words-within 2723 (layout t) (length-layout t) within }
   where
-    within : (k : ℕ) → k < 2690 → getD (layout t) k 0 < 4294967296
+    within : (k : ℕ) → k < 2723 → getD (layout t) k 0 < 4294967296
     within =
         by-place (λ k. getD (layout t) k 0 < 4294967296) (unfold layout in omega arith) (unfold layout in omega arith)
         (λ i j l b. rw (task-word t i j l b) (v i j))
         (λ i j l b. rw (slot-word t i j l b) (s i j))
+        (rw (ready-word t) (omega arith))
+        (λ k b. rw (sequence-word t k b) (w k))

@@ -1,13 +1,14 @@
--- What is read from a layout: the counts, each task, each slot, and the whole model.
-use mathlib.Core.Path.{_≡_, refl, sym, ap, _∙_}
+-- What is read from a layout: the counts, each task, each slot, the sequence of ready tasks, and the whole model.
+use mathlib.Core.Path.{_≡_, refl, sym, ap, ap₂, _∙_}
 use mathlib.Core.List.{List}
 use Prim.Native.Nat.{ℕ, suc, pred, _+_, _-_, _*_, _≤_, _<_}
 use native.Mathlib.Numerals.{sub-one}
 use native.Mathlib.Omega.{arith}
 use native.Mathlib.Decide.{decLt}
-use lib.ListN.{length, getD, List·getD-eq-default}
+use lib.ListN.{length, getD, take, List·getD-eq-default}
+use lib.Seq.{length-take-le, getD-take}
 use Rattle.laws.specs.Rows.{fit, tabulate}
-use Rattle.laws.proofs.Fit.{take-fit, length-tabulate, getD-tabulate, tabulate-is, tabulate-same, tabulate-getD}
+use Rattle.laws.proofs.Fit.{length-fit, getD-fit, take-fit, length-tabulate, getD-tabulate, tabulate-is, tabulate-same, tabulate-getD}
 use Rattle.words.specs.Words.{wordAt}
 use Rattle.words.proofs.WordsInBytes.{Bytes, Words, words-within, words-below, length-bytesOf, wordAt-bytesOf, wordAt-below}
 use Rattle.rules.specs.declared.Task.{Task}
@@ -16,9 +17,10 @@ use Rattle.rules.specs.Semaphore.{requeued}
 use Rattle.semaphore.specs.declared.Semaphore.{Semaphore}
 use Rattle.semaphore.specs.Record.{slotFrom, recordOf, Padded}
 use Rattle.tables.specs.Codec.{taskRow, taskFrom, recordRow, recordFrom, slotRow}
-use Rattle.tables.specs.Layout.{tablesLength, taskPlace, slotPlace, layout, laid, rowAt, taskAt, recordAt, modelOf}
+use Rattle.tables.specs.Layout.{tablesLength, taskPlace, slotPlace, readyPlace, sequencePlace, layout, laid, rowAt, taskAt, recordAt, sequenceAt}
+use Rattle.tables.specs.Layout.{modelOf}
 use Rattle.tables.specs.Sizes.{Limited, Holds}
-use Rattle.tables.proofs.LayoutWords.{length-slotRow, length-layout, task-word, slot-word}
+use Rattle.tables.proofs.LayoutWords.{length-slotRow, length-layout, task-word, slot-word, ready-word, sequence-word}
 
 pub length-laid : (t : Tables) → length (laid t) ≡ tablesLength
 unfolding laid
@@ -62,6 +64,31 @@ module _ (bs : List ℕ) (i : ℕ) where
 
   pub queue-places : length (recordAt bs i .queue) ≡ 32
   queue-places = omega (arith, ap length (slot-row bs i), length-tabulate 40 (λ j. wordAt bs (slotPlace i + j)))
+
+-- the places of the sequence of ready tasks
+module _ (bs : List ℕ) where
+  pub sequence-word-at : (k : ℕ) → k < 32 → wordAt bs (sequencePlace k) ≡ getD (sequenceAt bs) k 0
+  unfolding sequenceAt
+  sequence-word-at k l = sym (getD-tabulate 32 (λ j. wordAt bs (2691 + j)) k 0 l)
+
+  pub sequence-places : length (sequenceAt bs) ≡ 32
+  unfolding sequenceAt
+  sequence-places = length-tabulate 32 (λ j. wordAt bs (2691 + j))
+
+  pub sequence-below : Bytes bs → Words (sequenceAt bs)
+  sequence-below b =
+      words-within 32 (sequenceAt bs) sequence-places (λ k l. rw (← sequence-word-at k l) (wordAt-below bs b (sequencePlace k)))
+
+  -- and those that the model has of them
+  pub model-ready : modelOf bs .ready ≡ take (wordAt bs readyPlace) (sequenceAt bs)
+  unfolding modelOf
+  model-ready = refl
+
+  pub length-ready : wordAt bs readyPlace ≤ 32 → length (modelOf bs .ready) ≡ wordAt bs readyPlace
+  length-ready h = ap length model-ready ∙ length-take-le (wordAt bs readyPlace) (sequenceAt bs) (omega (arith, sequence-places))
+
+  pub ready-read : (k : ℕ) → k < wordAt bs readyPlace → getD (modelOf bs .ready) k 0 ≡ getD (sequenceAt bs) k 0
+  ready-read k h = ap (λ (qs : List ℕ). getD qs k 0) model-ready ∙ getD-take (wordAt bs readyPlace) (sequenceAt bs) k 0 h
 
 -- `record-below bs b i 0` is that the generation of slot i is below 2 ^ 32, and so on in the order of the row
 module _ (bs : List ℕ) (b : Bytes bs) (i : ℕ) where
@@ -107,6 +134,15 @@ module _ (t : Tables) (w : Words (layout t)) where
       let s : Slot = getD (t .slots) i (freeSlot 0) in
       ap {B = Semaphore} recordFrom (row-laid (slotPlace i) 40 (slotRow s) (length-slotRow s) (λ j b. slot-word t i j l b))
 
+  pub ready-laid : wordAt (laid t) readyPlace ≡ length (t .ready)
+  ready-laid = word-laid readyPlace ∙ ready-word t
+
+  pub sequence-laid : sequenceAt (laid t) ≡ fit 32 0 (t .ready)
+  unfolding sequenceAt
+  sequence-laid =
+      row-laid (sequencePlace 0) 32 (fit 32 0 (t .ready)) (length-fit 32 0 (t .ready))
+      (λ k l. sequence-word t k l ∙ sym (getD-fit 32 0 (t .ready) k l))
+
 -- task q of the bytes is the one at q - 1
 pub task-numbered : (m : List ℕ) (t : Tables) (q : ℕ) → Bytes m → m ≡ laid t → 1 ≤ q → q ≤ 32 → taskAt m (q - 1) ≡ taskOf t q
 task-numbered m t q b e l h =
@@ -130,6 +166,9 @@ module _ (t : Tables) (h : Holds t) where
   unfolding layout
   laid-slots = word-laid t (h .words) 1
 
+  pub laid-ready : wordAt (laid t) readyPlace ≡ length (t .ready)
+  laid-ready = ready-laid t (h .words)
+
   module _ (i : ℕ) where
     pub slotAt-laid : i < 64 → slotFrom (recordAt (laid t) i) ≡ getD (t .slots) i (freeSlot 0)
     slotAt-laid l =
@@ -141,7 +180,7 @@ module _ (t : Tables) (h : Holds t) where
   -- the model reads back
   pub modelOf-laid : modelOf (laid t) ≡ t
   unfolding modelOf
-  modelOf-laid = λ k. record { tasks = tasks k; slots = slots k }
+  modelOf-laid = λ k. record { tasks = tasks k; slots = slots k; ready = ready k }
     where
       tasks : tabulate (wordAt (laid t) 0) (taskAt (laid t)) ≡ t .tasks
       tasks =
@@ -156,3 +195,7 @@ module _ (t : Tables) (h : Holds t) where
           ∙ tabulate-same (length (t .slots)) (λ i. slotFrom (recordAt (laid t) i)) (λ i. getD (t .slots) i (freeSlot 0))
           (λ i l. slotAt-laid i (omega (arith, h .limited .slots)))
           ∙ tabulate-getD (t .slots) (freeSlot 0)
+
+      ready : take (wordAt (laid t) readyPlace) (sequenceAt (laid t)) ≡ t .ready
+      ready =
+          ap₂ (λ (n : ℕ) (qs : List ℕ). take n qs) laid-ready (sequence-laid t (h .words)) ∙ take-fit 32 0 (t .ready) (h .limited .ready)

@@ -1,25 +1,28 @@
--- What a store makes of a layout: the layout of the tables with one task or one slot replaced, and the tables as they start.
+-- What a store makes of a layout: the layout of the tables with one task, one slot or the sequence replaced, and the tables as they start.
 use mathlib.Core.Path.{_≡_, refl, sym, ap, ap₂, _∙_}
-use mathlib.Core.List.{List, [], _∷_}
-use Prim.Native.Nat.{ℕ, suc, _+_, _*_, _≤_, _<_}
+use mathlib.Core.List.{List, [], _∷_, _++_}
+use Prim.Native.Nat.{ℕ, suc, pred, _+_, _-_, _*_, _≤_, _<_}
 use native.Mathlib.Omega.{arith}
-use lib.ListN.{length, getD, set, take, replicate, length-set, length-replicate}
+use lib.ListN.{length, getD, set, take, replicate, length-set, length-append, length-replicate}
 use lib.Seq.{sets, ext-getD, length-take-le, take-length}
-use Rattle.laws.specs.Rows.{fit}
-use Rattle.laws.proofs.Fit.{length-fit, fit-none, fit-all, getD-same, set-fit, fit-replicate, set-fit-next}
-use Rattle.words.specs.Words.{bytesOf}
-use Rattle.words.proofs.WordsInBytes.{sets-bytesOf, bytesOf-zeros}
+use Rattle.laws.specs.Rows.{fit, tabulate}
+use Rattle.laws.proofs.Fit.{length-fit, fit-none, fit-all, getD-same, set-fit, fit-replicate, set-fit-next, set-fit-end, set-fit-last}
+use Rattle.words.specs.Words.{bytesOfWord, bytesOf, wordAt}
+use Rattle.words.proofs.WordsInBytes.{Bytes, sets-bytesOf, bytesOf-zeros}
 use Rattle.rules.specs.declared.Task.{Task}
-use Rattle.rules.specs.Machine.{Slot, Tables, unstarted, withTasks, withSlots, noTask, freeSlot}
+use Rattle.rules.specs.Machine.{Slot, Tables, unstarted, withTasks, withSlots, withReady, noTask, freeSlot}
+use Rattle.rules.specs.Calls.{upTo}
 use Rattle.semaphore.specs.declared.Semaphore.{Semaphore}
 use Rattle.semaphore.specs.Record.{slotFrom, Padded}
 use Rattle.tables.specs.Codec.{taskRow, slotRow, recordRow}
-use Rattle.tables.specs.Layout.{tablesLength, taskPlace, slotPlace, layout, laid}
-use Rattle.tables.proofs.LayoutWords.{words, taskPlaces, slotPlaces, tasks-long, slots-long, set-task}
-use Rattle.tables.proofs.LayoutWords.{set-slot, no-slot-word, length-layout, length-slotRow, task-word, slot-word, by-place}
+use Rattle.tables.specs.Layout.{tablesLength, taskPlace, slotPlace, readyPlace, sequencePlace, layout, laid}
+use Rattle.tables.proofs.LayoutWords.{words, taskPlaces, slotPlaces, sequenceRow, tasks-long, slots-long, length-words, set-task, set-slot, set-row}
+use Rattle.tables.proofs.LayoutWords.{no-slot-word, length-layout, length-slotRow, task-word, slot-word, ready-word, sequence-word}
+use Rattle.tables.proofs.LayoutWords.{by-place}
+use Rattle.tables.proofs.LayoutRead.{laid-words, ready-laid}
 
 -- a row stored in the bytes is stored in the words
-store-words : (t : Tables) (k : ℕ) (r : List ℕ) → k + length r ≤ 2690 → sets (laid t) (4 * k) (bytesOf r) ≡ bytesOf (sets (layout t) k r)
+store-words : (t : Tables) (k : ℕ) (r : List ℕ) → k + length r ≤ 2723 → sets (laid t) (4 * k) (bytesOf r) ≡ bytesOf (sets (layout t) k r)
 unfolding laid
 store-words t k r h = sets-bytesOf (layout t) k r (omega (arith, length-layout t))
 
@@ -29,8 +32,9 @@ unfolding laid layout
 store-task-laid t i v l h =
     store-words t (taskPlace i) (taskRow v) (omega arith)
     ∙ ap bytesOf
-    (set-task (taskPlaces t) (slotPlaces t) (tasks-long t) (slots-long t) (length (t .tasks)) (length (t .slots)) i v l
-    ∙ ap₂ (λ (n : ℕ) (ts : List Task). words n (length (t .slots)) ts (slotPlaces t)) (sym (length-set (t .tasks) i v)) (set-fit 32 noTask (t .tasks) i v h))
+    (set-task (taskPlaces t) (slotPlaces t) (tasks-long t) (slots-long t) (length (t .tasks)) (length (t .slots)) (sequenceRow (t .ready)) i v l
+    ∙ ap₂ (λ (n : ℕ) (ts : List Task). words n (length (t .slots)) ts (slotPlaces t) (sequenceRow (t .ready))) (sym (length-set (t .tasks) i v))
+    (set-fit 32 noTask (t .tasks) i v h))
 
 store-slot-row : (t : Tables) (i : ℕ) (s : Slot) → i < 64 → i < length (t .slots)
     → sets (laid t) (4 * slotPlace i) (bytesOf (slotRow s)) ≡ laid (withSlots t (set (t .slots) i s))
@@ -38,8 +42,8 @@ unfolding laid layout
 store-slot-row t i s l h =
     store-words t (slotPlace i) (slotRow s) (omega (arith, length-slotRow s))
     ∙ ap bytesOf
-    (set-slot (taskPlaces t) (slotPlaces t) (tasks-long t) (slots-long t) (length (t .tasks)) (length (t .slots)) i s l
-    ∙ ap₂ (λ (m : ℕ) (ss : List Slot). words (length (t .tasks)) m (taskPlaces t) ss) (sym (length-set (t .slots) i s))
+    (set-slot (taskPlaces t) (slotPlaces t) (tasks-long t) (slots-long t) (length (t .tasks)) (length (t .slots)) (sequenceRow (t .ready)) i s l
+    ∙ ap₂ (λ (m : ℕ) (ss : List Slot). words (length (t .tasks)) m (taskPlaces t) ss (sequenceRow (t .ready))) (sym (length-set (t .slots) i s))
     (set-fit 64 (freeSlot 0) (t .slots) i s h))
 
 -- a padded record has the words of the slot that it stands for
@@ -54,35 +58,119 @@ pub store-slot-laid : (t : Tables) (i : ℕ) (s : Semaphore) → i < 64 → i < 
 store-slot-laid t i s l h p =
     ap (λ (r : List ℕ). sets (laid t) (4 * slotPlace i) (bytesOf r)) (record-row s p) ∙ store-slot-row t i (slotFrom s) l h
 
--- ---- start: the counts first, then task by task
+-- ---- the sequence of ready tasks
+
+module _ (t : Tables) where
+  abbrev row : List ℕ → List ℕ
+  row = words (length (t .tasks)) (length (t .slots)) (taskPlaces t) (slotPlaces t)
+
+  set-at : (r : List ℕ) (k v : ℕ) → sets (row r) (readyPlace + k) (v ∷ []) ≡ row (sets r k (v ∷ []))
+  set-at r k v = set-row (taskPlaces t) (slotPlaces t) (tasks-long t) (slots-long t) (length (t .tasks)) (length (t .slots)) r k (v ∷ [])
+
+  -- one number in its places
+  set-place : (k v : ℕ) → sets (layout t) (sequencePlace k) (v ∷ []) ≡ row (length (t .ready) ∷ set (fit 32 0 (t .ready)) k v)
+  unfolding layout
+  set-place k v =
+      let place : sequencePlace k ≡ readyPlace + suc k = omega arith in
+      ap (λ (j : ℕ). sets (layout t) j (v ∷ [])) place ∙ set-at (sequenceRow (t .ready)) (suc k) v
+
+  set-ready-laid : (k q : ℕ) → k < 32 → k < length (t .ready)
+      → sets (laid t) (4 * sequencePlace k) (bytesOfWord q) ≡ laid (withReady t (set (t .ready) k q))
+  unfolding laid layout bytesOf
+  set-ready-laid k q l h =
+      store-words t (sequencePlace k) (q ∷ []) (omega arith)
+      ∙ ap bytesOf (set-place k q ∙ ap₂ (λ (n : ℕ) (x : List ℕ). row (n ∷ x)) (sym (length-set (t .ready) k q)) (set-fit 32 0 (t .ready) k q h))
+
+  -- one number in its places, and then another length
+  resize-laid : (k v n : ℕ) (qs : List ℕ) → k < 32 → set (fit 32 0 (t .ready)) k v ≡ fit 32 0 qs → n ≡ length qs
+      → sets (sets (laid t) (4 * sequencePlace k) (bytesOfWord v)) (4 * readyPlace) (bytesOfWord n) ≡ laid (withReady t qs)
+  unfolding laid layout bytesOf
+  resize-laid k v n qs l e c =
+      let first : sets (layout t) (sequencePlace k) (v ∷ []) ≡ row (length (t .ready) ∷ fit 32 0 qs) =
+      set-place k v ∙ ap (λ (x : List ℕ). row (length (t .ready) ∷ x)) e
+      in
+      let long : length (row (length (t .ready) ∷ fit 32 0 qs)) ≡ 2723 =
+      length-words (taskPlaces t) (slotPlaces t) (tasks-long t) (slots-long t) (length (t .tasks)) (length (t .slots)) (length (t .ready) ∷ fit 32 0 qs)
+      (omega (arith, length-fit 32 0 qs))
+      in
+      ap (λ (x : List ℕ). sets x (4 * readyPlace) (bytesOfWord n)) (store-words t (sequencePlace k) (v ∷ []) (omega arith) ∙ ap bytesOf first)
+      ∙ sets-bytesOf (row (length (t .ready) ∷ fit 32 0 qs)) readyPlace (n ∷ []) (omega arith)
+      ∙ ap bytesOf (set-at (length (t .ready) ∷ fit 32 0 qs) 0 n ∙ ap (λ (j : ℕ). row (j ∷ fit 32 0 qs)) c)
+
+-- what the stores make of bytes that are laid
+pub ready-set : (m m₁ : List ℕ) (k q : ℕ) → k < 32 → m₁ ≡ sets m (4 * sequencePlace k) (bytesOfWord q)
+    → (t : Tables) → m ≡ laid t → k < length (t .ready) → m₁ ≡ laid (withReady t (set (t .ready) k q))
+ready-set m m₁ k q l w t e h = w ∙ ap (λ (x : List ℕ). sets x (4 * sequencePlace k) (bytesOfWord q)) e ∙ set-ready-laid t k q l h
+
+-- by the count that is read from them
+module _ (m : List ℕ) (count : ℕ) (b : Bytes m) (c : count ≡ wordAt m readyPlace) (t : Tables) (e : m ≡ laid t) where
+  counted : count ≡ length (t .ready)
+  counted = c ∙ ap (λ (x : List ℕ). wordAt x readyPlace) e ∙ ready-laid t (laid-words t (rw e at b))
+
+  resized : (k v n : ℕ) (qs : List ℕ) → k < 32 → set (fit 32 0 (t .ready)) k v ≡ fit 32 0 qs → n ≡ length qs → (m₁ m₂ : List ℕ)
+      → m₁ ≡ sets m (4 * sequencePlace k) (bytesOfWord v) → m₂ ≡ sets m₁ (4 * readyPlace) (bytesOfWord n) → m₂ ≡ laid (withReady t qs)
+  resized k v n qs l s len m₁ m₂ w₁ w₂ =
+      w₂
+      ∙ ap (λ (x : List ℕ). sets x (4 * readyPlace) (bytesOfWord n)) (w₁ ∙ ap (λ (x : List ℕ). sets x (4 * sequencePlace k) (bytesOfWord v)) e)
+      ∙ resize-laid t k v n qs l s len
+
+  module _ (q : ℕ) (few : length (t .ready) < 32) where
+    pub ready-full : 32 ≤ count → m ≡ laid (withReady t (t .ready ++ q ∷ []))
+    ready-full h = absurd (omega (arith, counted))
+
+    pub ready-added : (m₁ m₂ : List ℕ) → m₁ ≡ sets m (4 * sequencePlace count) (bytesOfWord q) → m₂ ≡ sets m₁ (4 * readyPlace) (bytesOfWord (count + 1))
+        → m₂ ≡ laid (withReady t (t .ready ++ q ∷ []))
+    ready-added =
+        resized count q (count + 1) (t .ready ++ q ∷ []) (omega (arith, counted))
+        (ap (λ (k : ℕ). set (fit 32 0 (t .ready)) k q) counted ∙ set-fit-end 32 0 (t .ready) q few)
+        (simp length-append (omega (arith, counted)))
+
+  module _ (some : 1 ≤ length (t .ready)) (few : length (t .ready) ≤ 32) where
+    pub ready-empty : count ≡ 0 → m ≡ laid (withReady t (take (pred (length (t .ready))) (t .ready)))
+    ready-empty z = absurd (omega (arith, counted))
+
+    pub ready-over : 32 < count → m ≡ laid (withReady t (take (pred (length (t .ready))) (t .ready)))
+    ready-over h = absurd (omega (arith, counted))
+
+    pub ready-dropped : (m₁ m₂ : List ℕ) → m₁ ≡ sets m (4 * sequencePlace (count - 1)) (bytesOfWord 0)
+        → m₂ ≡ sets m₁ (4 * readyPlace) (bytesOfWord (count - 1)) → m₂ ≡ laid (withReady t (take (pred (length (t .ready))) (t .ready)))
+    ready-dropped =
+        let last : count - 1 ≡ pred (length (t .ready)) = omega (arith, counted) in
+        resized (count - 1) 0 (count - 1) (take (pred (length (t .ready))) (t .ready)) (omega (arith, counted))
+        (ap (λ (k : ℕ). set (fit 32 0 (t .ready)) k 0) last ∙ set-fit-last 32 0 (t .ready) some)
+        (last ∙ sym (length-take-le (pred (length (t .ready))) (t .ready) (omega arith)))
+
+-- ---- start: the counts first, then task by task, each with its number at the end of the sequence
 
 -- before the start every byte is 0
 pub laid-unstarted : laid unstarted ≡ replicate tablesLength 0
 unfolding laid
-laid-unstarted = ap bytesOf zeros ∙ bytesOf-zeros 2690
+laid-unstarted = ap bytesOf zeros ∙ bytesOf-zeros 2723
   where
-    zero-word : (k : ℕ) → k < 2690 → getD (layout unstarted) k 0 ≡ 0
+    zero-word : (k : ℕ) → k < 2723 → getD (layout unstarted) k 0 ≡ 0
     zero-word =
         by-place (λ k. getD (layout unstarted) k 0 ≡ 0) (unfold layout in refl) (unfold layout in refl)
         (λ i j l b. task-word unstarted i j l b ∙ getD-same 4 0 j)
         (λ i j l b. slot-word unstarted i j l b ∙ no-slot-word j)
+        (ready-word unstarted)
+        (λ k b. sequence-word unstarted k b)
 
-    zeros : layout unstarted ≡ replicate 2690 0
+    zeros : layout unstarted ≡ replicate 2723 0
     zeros =
-        ext-getD 0 (layout unstarted) (replicate 2690 0) (length-layout unstarted ∙ sym (length-replicate {A = ℕ} 2690 0))
-        (λ k l. zero-word k (omega (arith, length-layout unstarted)) ∙ sym (getD-same 2690 0 k))
+        ext-getD 0 (layout unstarted) (replicate 2723 0) (length-layout unstarted ∙ sym (length-replicate {A = ℕ} 2723 0))
+        (λ k l. zero-word k (omega (arith, length-layout unstarted)) ∙ sym (getD-same 2723 0 k))
 
 -- tables with m slots, all free
-abbrev pub allFree : ℕ → List Task → Tables
-allFree m ts = record { tasks = ts; slots = replicate m (freeSlot 0) }
+abbrev pub allFree : ℕ → List Task → List ℕ → Tables
+allFree m ts qs = record { tasks = ts; slots = replicate m (freeSlot 0); ready = qs }
 
--- and the first k of their tasks stored, the others still 0
-abbrev pub starting : ℕ → List Task → ℕ → Tables
-starting m ts k = allFree m (fit (length ts) noTask (take k ts))
+-- and the first k of their tasks stored, the others still 0, and the numbers of the first j in the sequence
+abbrev pub starting : ℕ → List Task → ℕ → ℕ → Tables
+starting m ts k j = allFree m (fit (length ts) noTask (take k ts)) (upTo j)
 
 -- with the counts stored over the tables before the start
-pub start-counts : (m : ℕ) (ts : List Task) → sets (laid unstarted) 0 (bytesOf (length ts ∷ m ∷ [])) ≡ laid (starting m ts 0)
-unfolding laid layout
+pub start-counts : (m : ℕ) (ts : List Task) → sets (laid unstarted) 0 (bytesOf (length ts ∷ m ∷ [])) ≡ laid (starting m ts 0 0)
+unfolding laid layout tabulate
 start-counts m ts =
     store-words unstarted 0 (length ts ∷ m ∷ []) (omega arith)
     ∙ ap bytesOf same
@@ -90,17 +178,18 @@ start-counts m ts =
     tasks : fit 32 noTask (fit (length ts) noTask []) ≡ fit 32 noTask []
     tasks = rw (fit-none (length ts) noTask) (fit-replicate 32 (length ts) noTask)
 
-    same : words (length ts) m (fit 32 noTask []) (fit 64 (freeSlot 0) []) ≡ layout (starting m ts 0)
+    same : words (length ts) m (fit 32 noTask []) (fit 64 (freeSlot 0) []) (sequenceRow []) ≡ layout (starting m ts 0 0)
     same =
-        sym λ k. words (length-fit (length ts) noTask [] k) (length-replicate m (freeSlot 0) k) (tasks k) (fit-replicate 64 m (freeSlot 0) k)
+        sym λ k.
+        words (length-fit (length ts) noTask [] k) (length-replicate m (freeSlot 0) k) (tasks k) (fit-replicate 64 m (freeSlot 0) k) (sequenceRow [])
 
 -- one task more
-pub start-task : (m : ℕ) (ts : List Task) (k : ℕ) → k < 32 → k < length ts
-    → sets (laid (starting m ts k)) (4 * taskPlace k) (bytesOf (taskRow (getD ts k noTask))) ≡ laid (starting m ts (suc k))
-start-task m ts k l h =
-    store-task-laid (starting m ts k) k (getD ts k noTask) l (rw length-fit h)
-    ∙ ap (λ (x : List Task). laid (allFree m x)) (set-fit-next (length ts) noTask ts k h)
+pub start-task : (m : ℕ) (ts : List Task) (k j : ℕ) → k < 32 → k < length ts
+    → sets (laid (starting m ts k j)) (4 * taskPlace k) (bytesOf (taskRow (getD ts k noTask))) ≡ laid (starting m ts (suc k) j)
+start-task m ts k j l h =
+    store-task-laid (starting m ts k j) k (getD ts k noTask) l (rw length-fit h)
+    ∙ ap (λ (x : List Task). laid (allFree m x (upTo j))) (set-fit-next (length ts) noTask ts k h)
 
 -- all of them
-pub start-all : (m : ℕ) (ts : List Task) → starting m ts (length ts) ≡ allFree m ts
-start-all m ts = rw (take-length ts) (ap (λ (x : List Task). allFree m x) (fit-all (length ts) noTask ts refl))
+pub start-all : (m : ℕ) (ts : List Task) → starting m ts (length ts) (length ts) ≡ allFree m ts (upTo (length ts))
+start-all m ts = rw (take-length ts) (ap (λ (x : List Task). allFree m x (upTo (length ts))) (fit-all (length ts) noTask ts refl))

@@ -21,11 +21,13 @@ use Rattle.rules.specs.Machine.{Slot, Tables, noTask, freeSlot}
 use Rattle.semaphore.specs.declared.Semaphore.{Semaphore}
 use Rattle.semaphore.specs.Record.{slotFrom, Padded}
 use Rattle.tables.specs.Codec.{taskRow, taskFrom, recordFrom, slotRow}
-use Rattle.tables.specs.Layout.{tablesLength, taskPlace, slotPlace, layout, laid, rowAt, taskAt, recordAt, modelOf, isQueueLaid, isLaid}
+use Rattle.tables.specs.Layout.{tablesLength, taskPlace, slotPlace, readyPlace, sequencePlace, layout, laid, rowAt, taskAt, recordAt}
+use Rattle.tables.specs.Layout.{modelOf, isQueueLaid, isSequenceLaid, isLaid}
 use Rattle.tables.specs.Sizes.{Bounded, Limited, Holds, IsLayout}
-use Rattle.tables.proofs.LayoutWords.{no-slot-word, length-layout, task-word, slot-word, by-place}
+use Rattle.tables.proofs.LayoutWords.{no-slot-word, length-layout, task-word, slot-word, ready-word, sequence-word, by-place}
 use Rattle.tables.proofs.LayoutRead.{length-laid, limited-holds, task-word-at, slot-word-at, queue-word-at}
-use Rattle.tables.proofs.LayoutRead.{queue-places, queue-few, word-laid, record-laid, laid-tasks, laid-slots}
+use Rattle.tables.proofs.LayoutRead.{queue-places, queue-few, word-laid, record-laid, laid-tasks, laid-slots, laid-ready}
+use Rattle.tables.proofs.LayoutRead.{sequence-word-at, length-ready, ready-read}
 use Rattle.tables.proofs.LayoutStore.{record-row}
 
 -- ---- a layout passes the test
@@ -41,19 +43,36 @@ module _ (t : Tables) (h : Holds t) where
       (λ l b. absurd (omega arith))
       (λ i j u v l b. task-word t i j u v ∙ ap (λ (v : Task). getD (taskRow v) j 0) (List·getD-eq-default (t .tasks) noTask (omega arith)) ∙ getD-same 4 0 j)
       (λ i j u v l b. absurd (omega arith))
+      (λ l b. absurd (omega arith))
+      (λ j u l b. absurd (omega arith))
       k (omega arith) (omega arith) b
 
-  slots-blank : blank (laid t) (slotPlace (wordAt (laid t) 1)) 2690 ≡ true
+  slots-blank : blank (laid t) (slotPlace (wordAt (laid t) 1)) readyPlace ≡ true
   slots-blank =
       let n : wordAt (laid t) 1 ≡ length (t .slots) = laid-slots t h in
-      blank-of (laid t) (slotPlace (wordAt (laid t) 1)) 2690 λ k l b.
+      blank-of (laid t) (slotPlace (wordAt (laid t) 1)) readyPlace λ k l b.
       word-laid t (h .words) k
-      ∙ by-place (λ k. slotPlace (length (t .slots)) ≤ k → getD (layout t) k 0 ≡ 0)
-      (λ l. absurd (omega arith))
-      (λ l. absurd (omega arith))
-      (λ i j u v l. absurd (omega arith))
-      (λ i j u v l. slot-word t i j u v ∙ ap (λ (s : Slot). getD (slotRow s) j 0) (List·getD-eq-default (t .slots) (freeSlot 0) (omega arith)) ∙ no-slot-word j)
-      k b (omega arith)
+      ∙ by-place (λ k. slotPlace (length (t .slots)) ≤ k → k < readyPlace → getD (layout t) k 0 ≡ 0)
+      (λ l b. absurd (omega arith))
+      (λ l b. absurd (omega arith))
+      (λ i j u v l b. absurd (omega arith))
+      (λ i j u v l b. slot-word t i j u v ∙ ap (λ (s : Slot). getD (slotRow s) j 0) (List·getD-eq-default (t .slots) (freeSlot 0) (omega arith)) ∙ no-slot-word j)
+      (λ l b. absurd (omega arith))
+      (λ j u l b. absurd (omega arith))
+      k (omega arith) (omega arith) b
+
+  sequence-laid : isSequenceLaid (laid t) ≡ true
+  unfolding isSequenceLaid
+  sequence-laid =
+      let n : wordAt (laid t) readyPlace ≡ length (t .ready) = laid-ready t h in
+      let few = h .limited .ready in
+      both-and (le-leb (wordAt (laid t) readyPlace) 32 (omega arith))
+      (blank-of (laid t) (sequencePlace (wordAt (laid t) readyPlace)) 2723 λ k l b.
+      let j : ℕ = k - sequencePlace 0 in
+      ap (wordAt (laid t)) (omega arith)
+      ∙ word-laid t (h .words) (sequencePlace j)
+      ∙ sequence-word t j (omega arith)
+      ∙ List·getD-eq-default (t .ready) 0 (omega arith))
 
   queue-laid : (i : ℕ) → i < 64 → isQueueLaid (laid t) i ≡ true
   unfolding isQueueLaid
@@ -81,7 +100,7 @@ module _ (t : Tables) (h : Holds t) where
       (both-and (le-leb (wordAt (laid t) 0) 32 (omega arith))
       (both-and (le-leb (wordAt (laid t) 1) 64 (omega arith))
       (both-and tasks-blank
-      (both-and (all-of (wordAt (laid t) 1) (isQueueLaid (laid t)) (λ i l. queue-laid i (omega arith))) slots-blank))))
+      (both-and (all-of (wordAt (laid t) 1) (isQueueLaid (laid t)) (λ i l. queue-laid i (omega arith))) (both-and slots-blank sequence-laid)))))
 
 -- ---- bytes that pass the test are a layout
 
@@ -92,23 +111,29 @@ record Passed (bs : List ℕ) : Type 0 where
   few-slots : wordAt bs 1 ≤ 64
   past-tasks : (k : ℕ) → taskPlace (wordAt bs 0) ≤ k → k < 130 → wordAt bs k ≡ 0
   queues : (i : ℕ) → i < wordAt bs 1 → isQueueLaid bs i ≡ true
-  past-slots : (k : ℕ) → slotPlace (wordAt bs 1) ≤ k → k < 2690 → wordAt bs k ≡ 0
+  past-slots : (k : ℕ) → slotPlace (wordAt bs 1) ≤ k → k < readyPlace → wordAt bs k ≡ 0
+  few-ready : wordAt bs readyPlace ≤ 32
+  past-ready : (k : ℕ) → sequencePlace (wordAt bs readyPlace) ≤ k → k < 2723 → wordAt bs k ≡ 0
 
 passed : (bs : List ℕ) → isLaid bs ≡ true → Passed bs
-unfolding isLaid
+unfolding isLaid isSequenceLaid
 passed bs e =
     let a = and-both _ _ e in
     let b = and-both _ _ (a .1) in
     let c = and-both _ _ (b .1) in
     let d = and-both _ _ (c .1) in
     let f = and-both _ _ (d .1) in
+    let g = and-both _ _ (f .1) in
+    let h = and-both _ _ (g .1) in
     record {
       size = eqb-true (length bs) tablesLength (a .0);
       few-tasks = leb-true (wordAt bs 0) 32 (b .0);
       few-slots = leb-true (wordAt bs 1) 64 (c .0);
       past-tasks = blank-at bs (taskPlace (wordAt bs 0)) 130 (d .0);
       queues = all-at (wordAt bs 1) (isQueueLaid bs) (f .0);
-      past-slots = blank-at bs (slotPlace (wordAt bs 1)) 2690 (f .1);
+      past-slots = blank-at bs (slotPlace (wordAt bs 1)) readyPlace (g .0);
+      few-ready = leb-true (wordAt bs readyPlace) 32 (h .0);
+      past-ready = blank-at bs (sequencePlace (wordAt bs readyPlace)) 2723 (h .1);
     }
 
 -- so the bytes can be read
@@ -117,7 +142,7 @@ unfolding isQueueLaid
 laid-bounded bs e =
     let p = passed bs e in
     record {
-      sized = record { long = p .size; tasks = p .few-tasks; slots = p .few-slots };
+      sized = record { long = p .size; tasks = p .few-tasks; slots = p .few-slots; ready = p .few-ready };
       queues = λ i h. leb-true (recordAt bs i .waiters) 32 (and-both _ _ (p .queues i h) .0);
     }
 
@@ -160,8 +185,21 @@ module _ (bs : List ℕ) (p : Passed bs) where
             in
             record { few = leb-true w 32 (a .0); filled = fit-take 32 0 w (recordAt bs i .queue) (queue-places bs i) behind }
 
+  -- the number of the model at any place of the sequence
+  ready-there : (k : ℕ) → k < 32 → getD (modelOf bs .ready) k 0 ≡ wordAt bs (sequencePlace k)
+  ready-there k l =
+      elim (decLt k (wordAt bs readyPlace)) [
+        | yes h ↦ ready-read bs k h ∙ sym (sequence-word-at bs k l)
+        | no d ↦ past (omega arith)
+      ]
+    where
+      past : wordAt bs readyPlace ≤ k → getD (modelOf bs .ready) k 0 ≡ wordAt bs (sequencePlace k)
+      past h =
+          let n : length (modelOf bs .ready) ≡ wordAt bs readyPlace = length-ready bs (p .few-ready) in
+          List·getD-eq-default (modelOf bs .ready) 0 (omega arith) ∙ sym (p .past-ready (sequencePlace k) (omega arith) (omega arith))
+
   -- each word is that of the layout
-  words-read : (k : ℕ) → k < 2690 → getD (layout (modelOf bs)) k 0 ≡ wordAt bs k
+  words-read : (k : ℕ) → k < 2723 → getD (layout (modelOf bs)) k 0 ≡ wordAt bs k
   words-read =
       by-place (λ k. getD (layout (modelOf bs)) k 0 ≡ wordAt bs k)
       (unfold layout modelOf in length-tabulate (wordAt bs 0) (taskAt bs))
@@ -174,6 +212,8 @@ module _ (bs : List ℕ) (p : Passed bs) where
       slot-word (modelOf bs) i j l b
       ∙ ap (λ (r : List ℕ). getD r j 0) (ap {B = List ℕ} slotRow (slot-there i l) ∙ sym (record-row (recordAt bs i) (padded i l)))
       ∙ sym (slot-word-at bs i j b))
+      (ready-word (modelOf bs) ∙ length-ready bs (p .few-ready))
+      (λ k b. sequence-word (modelOf bs) k b ∙ ready-there k b)
 
   model-limited : Limited (modelOf bs)
   unfolding modelOf
@@ -183,6 +223,7 @@ module _ (bs : List ℕ) (p : Passed bs) where
       record {
         tasks = omega arith;
         slots = omega arith;
+        ready = omega (arith, length-ready bs (p .few-ready), p .few-ready);
         queues =
             λ i h.
             rw (getD-tabulate (wordAt bs 1) (λ i. slotFrom (recordAt bs i)) i (freeSlot 0) (omega arith))
@@ -196,8 +237,8 @@ module _ (bs : List ℕ) (b : Bytes bs) where
   pub laid-modelOf : isLaid bs ≡ true → bs ≡ laid (modelOf bs)
   unfolding laid
   laid-modelOf e =
-      bytes-words 2690 bs b (passed bs e .size)
-      ∙ ap bytesOf (sym (tabulate-is 2690 (wordAt bs) (layout (modelOf bs)) 0 (length-layout (modelOf bs)) (words-read bs (passed bs e))))
+      bytes-words 2723 bs b (passed bs e .size)
+      ∙ ap bytesOf (sym (tabulate-is 2723 (wordAt bs) (layout (modelOf bs)) 0 (length-layout (modelOf bs)) (words-read bs (passed bs e))))
 
   pub holds-modelOf : isLaid bs ≡ true → Holds (modelOf bs)
   holds-modelOf e = limited-holds (modelOf bs) (model-limited bs (passed bs e)) (subst Bytes (laid-modelOf e) b)

@@ -12,12 +12,12 @@ use Rattle.laws.specs.Choose.{_and_}
 use Rattle.laws.proofs.Choose.{if-yes, if-no}
 use Rattle.laws.specs.All.{all}
 use Rattle.laws.proofs.Fit.{sets-join}
-use Rattle.words.specs.Words.{bytesOf, wordAt, blank}
+use Rattle.words.specs.Words.{bytesOfWord, bytesOf, wordAt, blank}
 use Rattle.rules.specs.declared.Task.{Task}
 use Rattle.semaphore.specs.declared.Semaphore.{Semaphore}
 use Rattle.tables.specs.declared.Head.{Head}
 use Rattle.tables.specs.Codec.{recordRow}
-use Rattle.tables.specs.Layout.{tablesLength, taskPlace, slotPlace, headOf, recordAt, isQueueLaid, isLaid}
+use Rattle.tables.specs.Layout.{tablesLength, taskPlace, slotPlace, readyPlace, sequencePlace, headOf, recordAt, isQueueLaid, isSequenceLaid, isLaid}
 
 -- ---- a slot, stored as its eight words and then its queue
 
@@ -84,6 +84,18 @@ module _ (bs : List ℕ) (i w : ℕ) (e : w ≡ recordAt bs i .waiters) where
   pub queue-within : (r : Bool) → w ≤ 32 → r ≡ blank bs (slotPlace i + 8 + w) (slotPlace i + 40) → r ≡ isQueueLaid bs i
   queue-within r h f = and-then (le-leb w 32 h) f ∙ queue-tested
 
+-- the sequence of ready tasks, by its length
+module _ (bs : List ℕ) (w : ℕ) (e : w ≡ wordAt bs readyPlace) where
+  sequence-tested : (leb w 32 and blank bs (sequencePlace w) 2723) ≡ isSequenceLaid bs
+  unfolding isSequenceLaid
+  sequence-tested = ap (λ (w : ℕ). leb w 32 and blank bs (sequencePlace w) 2723) e
+
+  pub sequence-long : 32 < w → false ≡ isSequenceLaid bs
+  sequence-long h = and-stop _ (lt-leb w 32 h) ∙ sequence-tested
+
+  pub sequence-within : (r : Bool) → w ≤ 32 → r ≡ blank bs (sequencePlace w) 2723 → r ≡ isSequenceLaid bs
+  sequence-within r h f = and-then (le-leb w 32 h) f ∙ sequence-tested
+
 -- the tables, by their length
 pub wrong-length : (bs : List ℕ) → (length bs ≡ tablesLength → ⊥) → false ≡ isLaid bs
 unfolding isLaid
@@ -92,7 +104,7 @@ wrong-length bs h = and-stop _ (ne-eqb (length bs) tablesLength h)
 -- the tables, by their counts: each test behind those that held
 module _ (bs : List ℕ) (n s : ℕ) (en : n ≡ wordAt bs 0) (es : s ≡ wordAt bs 1) (sized : length bs ≡ tablesLength) where
   tables-tested : (r : Bool)
-      → r ≡ (leb n 32 and leb s 64 and blank bs (taskPlace n) 130 and all s (isQueueLaid bs) and blank bs (slotPlace s) 2690)
+      → r ≡ (leb n 32 and leb s 64 and blank bs (taskPlace n) 130 and all s (isQueueLaid bs) and blank bs (slotPlace s) readyPlace and isSequenceLaid bs)
       → r ≡ isLaid bs
   unfolding isLaid
   tables-tested r e = and-then (eq-eqb (length bs) tablesLength sized) (rw (en, es) at e)
@@ -111,7 +123,11 @@ module _ (bs : List ℕ) (n s : ℕ) (en : n ≡ wordAt bs 0) (es : s ≡ wordAt
       pub queues-not-laid : blank bs (taskPlace n) 130 ≡ true → all s (isQueueLaid bs) ≡ false → false ≡ isLaid bs
       queues-not-laid b h = tables-tested false (and-then (le-leb n 32 hn) (and-then (le-leb s 64 hs) (and-then b (and-stop _ h))))
 
-      pub slots-tested : (r : Bool) → blank bs (taskPlace n) 130 ≡ true → all s (isQueueLaid bs) ≡ true
-          → r ≡ blank bs (slotPlace s) 2690 → r ≡ isLaid bs
-      slots-tested r b q h =
-          tables-tested r (and-then (le-leb n 32 hn) (and-then (le-leb s 64 hs) (and-then b (and-then q h))))
+      module _ (b : blank bs (taskPlace n) 130 ≡ true) (q : all s (isQueueLaid bs) ≡ true) where
+        pub slots-not-blank : blank bs (slotPlace s) readyPlace ≡ false → false ≡ isLaid bs
+        slots-not-blank h =
+            tables-tested false (and-then (le-leb n 32 hn) (and-then (le-leb s 64 hs) (and-then b (and-then q (and-stop _ h)))))
+
+        pub slots-tested : (r : Bool) → blank bs (slotPlace s) readyPlace ≡ true → r ≡ isSequenceLaid bs → r ≡ isLaid bs
+        slots-tested r c h =
+            tables-tested r (and-then (le-leb n 32 hn) (and-then (le-leb s 64 hs) (and-then b (and-then q (and-then c h)))))

@@ -2,18 +2,20 @@
 use rules::Task;
 use semaphore::Semaphore;
 ghost use mathlib.Core.Path.{_≡_};
-ghost use Prim.Native.Nat.{_+_, _*_, _≤_, _<_};
-ghost use mathlib.Core.List.{[], _∷_};
-ghost use lib.ListN.{length, getD};
+ghost use Prim.Native.Nat.{pred, _+_, _*_, _≤_, _<_};
+ghost use mathlib.Core.List.{[], _∷_, _++_};
+ghost use lib.ListN.{length, getD, set, take};
 ghost use lib.Seq.{sets};
 ghost use Rattle.words.specs.Words.{bytesOf, wordAt};
+ghost use Rattle.rules.specs.Machine.{Tables, withReady};
 ghost use Rattle.tables.specs.Codec.{taskRow, recordRow};
-ghost use Rattle.tables.specs.Layout.{tablesLength, taskPlace, slotPlace, taskAt, headOf, recordAt, isQueueLaid, isLaid};
+ghost use Rattle.tables.specs.Layout.{tablesLength, taskPlace, slotPlace, readyPlace, laid, taskAt, headOf, recordAt, sequenceAt};
+ghost use Rattle.tables.specs.Layout.{isQueueLaid, isSequenceLaid, isLaid};
 ghost use Rattle.laws.specs.All.{all};
 
-pub const TABLES_LENGTH: usize = 10760;
+pub const TABLES_LENGTH: usize = 10892;
 
-// Words: N, S, then the places of tasks, then those of slots.
+// Words: N, S, then the places of tasks, those of slots, the length of the sequence of ready tasks and its places.
 pub const TASK_PLACES: usize = 32;
 
 const SLOT_PLACES: usize = 64;
@@ -26,7 +28,11 @@ const SLOTS_AT: usize = 130;
 
 const SLOT_WORDS: usize = 40;
 
-const TABLES_WORDS: usize = 2690;
+const READY_AT: usize = 2690;
+
+const SEQUENCE_AT: usize = 2691;
+
+const TABLES_WORDS: usize = 2723;
 
 // Words of a slot: its numbers, the count of its waiters, and the places of its queue.
 const GENERATION: usize = 0;
@@ -225,6 +231,62 @@ pub fn store_slot(m: &mut [u8], i: usize, s: Semaphore)
     words::set_words(m, at + QUEUE, &queue);
 }
 
+// How many tasks are ready.
+pub fn ready_count(m: &[u8]) -> u32
+    requires { ⌜ length (now m) ≡ tablesLength ⌝ }
+    ensures { λ r. ⌜ r ≡ wordAt (now (m .entry)) readyPlace ⌝ }
+{
+    words::word(m, READY_AT)
+}
+
+// The task at place k of the sequence of ready tasks.
+pub fn ready_entry(m: &[u8], k: usize) -> u32
+    requires { ⌜ (length (now m) ≡ tablesLength) × (k < 32) ⌝ }
+    ensures { λ r. ⌜ r ≡ getD (sequenceAt (now (m .entry))) k 0 ⌝ }
+{
+    words::word(m, SEQUENCE_AT + k)
+}
+
+// Another task at place k of the sequence.
+pub fn set_ready(m: &mut [u8], k: usize, q: u32)
+    requires { ⌜ (length (now m) ≡ tablesLength) × (k < 32) ⌝ }
+    ensures { λ _. ⌜ ((t : Tables) → now (m .entry) ≡ laid t → k < length (t .ready) → now (m .exit) ≡ laid (withReady t (set (t .ready) k q))) ⌝ }
+{
+    words::set_word(m, SEQUENCE_AT + k, q);
+}
+
+// One ready task more, at the end of the sequence.
+pub fn add_ready(m: &mut [u8], q: u32)
+    requires { ⌜ length (now m) ≡ tablesLength ⌝ }
+    ensures { λ _. ⌜ ((t : Tables) → now (m .entry) ≡ laid t → length (t .ready) < 32 → now (m .exit) ≡ laid (withReady t (t .ready ++ q ∷ []))) ⌝ }
+{
+    let count = ready_count(m);
+    // Where tables agree there is room: each ready task stands once.
+    if rules::MAX_TASKS <= count {
+        return;
+    }
+    words::set_word(m, SEQUENCE_AT + count as usize, q);
+    words::set_word(m, READY_AT, count + 1);
+}
+
+// The last task of the sequence leaves it.
+pub fn drop_ready(m: &mut [u8])
+    requires { ⌜ length (now m) ≡ tablesLength ⌝ }
+    ensures { λ _. ⌜ ((t : Tables) → now (m .entry) ≡ laid t → 1 ≤ length (t .ready) → length (t .ready) ≤ 32
+        → now (m .exit) ≡ laid (withReady t (take (pred (length (t .ready))) (t .ready)))) ⌝ }
+{
+    let count = ready_count(m);
+    if count == 0 {
+        return;
+    }
+    if rules::MAX_TASKS < count {
+        return;
+    }
+    let last = count - 1;
+    words::set_word(m, SEQUENCE_AT + last as usize, 0);
+    words::set_word(m, READY_AT, last);
+}
+
 // Whether a slot's queue is within its 32 places, and 0 behind its waiters.
 fn is_queue_laid(m: &[u8], i: usize) -> bool
     requires { ⌜ (length (now m) ≡ tablesLength) × (i < 64) ⌝ }
@@ -256,6 +318,18 @@ fn are_queues_laid(m: &[u8], slots: usize) -> bool
     true
 }
 
+// Whether the sequence of ready tasks is within its 32 places, and 0 behind its length.
+fn is_sequence_laid(m: &[u8]) -> bool
+    requires { ⌜ length (now m) ≡ tablesLength ⌝ }
+    ensures { λ r. ⌜ r ≡ isSequenceLaid (now (m .entry)) ⌝ }
+{
+    let ready = ready_count(m) as usize;
+    if TASK_PLACES < ready {
+        return false;
+    }
+    words::is_blank(m, SEQUENCE_AT + ready, TABLES_WORDS)
+}
+
 // Whether lent bytes, of any length, are the layout of some tables.
 pub fn is_layout(m: &[u8]) -> bool
     ensures { λ r. ⌜ r ≡ isLaid (now (m .entry)) ⌝ }
@@ -277,5 +351,8 @@ pub fn is_layout(m: &[u8]) -> bool
     if !are_queues_laid(m, slots) {
         return false;
     }
-    words::is_blank(m, SLOTS_AT + SLOT_WORDS * slots, TABLES_WORDS)
+    if !words::is_blank(m, SLOTS_AT + SLOT_WORDS * slots, READY_AT) {
+        return false;
+    }
+    is_sequence_laid(m)
 }

@@ -13,22 +13,26 @@ use Rattle.words.proofs.WordsInBytes.{Bytes, Words}
 use Rattle.rules.specs.declared.Call.{Call}
 use Rattle.rules.specs.declared.Call.the-variants.{Create, Delete, Release}
 use Rattle.rules.specs.Numbers.{maxGeneration}
-use Rattle.rules.specs.Machine.{Tables, unstarted, slotOf, names, next}
+use Rattle.rules.specs.Machine.{Tables, unstarted, withTasks, withReady, slotOf, names, next}
 use Rattle.rules.specs.Agreement.{Agrees}
 use Rattle.rules.specs.Calls.{step}
 use Rattle.rules.specs.Runs.{Request, after, answers}
-use Rattle.rules.specs.Promises.{Refusal, IsRefusal, listed, isIn, SomeGives, NextIs, NeverAgain}
+use Rattle.rules.specs.Promises.{Refusal, IsRefusal, listed, isIn, SomeGives, NextIs, sequenceAfter, NeverAgain}
 use Rattle.rules.specs.Fits.{callFits, callsFit}
 use Rattle.rules.proofs.Refusals.{refusal-keeps}
 use Rattle.rules.proofs.Statuses.{listed-given}
-use Rattle.rules.proofs.Next.{next-is}
+use Rattle.rules.proofs.Next.{next-is, answered-next}
+use Rattle.rules.proofs.Sequence.{ready-order}
+use Rattle.rules.proofs.Invariants.Agreeing.{unstarted-agrees}
 use Rattle.rules.proofs.Invariants.Kept.{kept}
 use Rattle.rules.proofs.History.Identifiers.{created-once}
-use Rattle.rules.proofs.Asking.{ask, says, requests, expected, answersOf, lastOf}
+use Rattle.rules.proofs.Asking.{ask, says, requests, expected, answersOf, tablesOf, lastOf}
 use Rattle.rules.proofs.Vectors as vectors
-use Rattle.tables.specs.Layout.{laid, modelOf}
+use Rattle.tables.specs.Layout.{tablesLength, laid, modelOf}
 use Rattle.tables.specs.Sizes.{Holds}
 use Rattle.tables.proofs.LayoutRead as layouts
+use Rattle.tables.proofs.LayoutStore.{laid-unstarted}
+use Rattle.records.proofs.Core.{as-the-core}
 use Rattle.agreement.specs.Bytes.{agreesBytes}
 use Rattle.calls.specs.Agreeing.{Agreeing}
 use Rattle.manager.specs.Entry.{reply, noNext, replyTo}
@@ -94,25 +98,64 @@ pub agreeing-bytes-answer-by-the-rules : (bs : List ℕ) (call : Call) (prioriti
     → replyTo bs call priorities ≡ reply (step (modelOf bs) call priorities)
 agreeing-bytes-answer-by-the-rules = entries.reply-is
 
+-- a machine not yet started is all zeros, and agrees
+pub unstarted-is-zeros : (laid unstarted ≡ replicate tablesLength 0) × Agrees unstarted
+unstarted-is-zeros = (laid-unstarted, unstarted-agrees)
+
 -- a layout reads back as its tables
 pub layout-reads-back : (t : Tables) → Holds t → modelOf (laid t) ≡ t
 layout-reads-back = layouts.modelOf-laid
 
--- the next task is the most urgent of the ready ones, among equals the lowest, 0 if none is ready
-pub next-task : (t : Tables) → NextIs t (next t)
+-- the next task: of the ready tasks those of the least priority number, of these the first in the sequence; 0 if none is ready
+pub next-task : (t : Tables) → Agrees t → NextIs t (next t)
 next-task = next-is
 
--- P1 to P14, and as a session's text
+-- so of every answer, whatever its status, on the tables that the call leaves, and over the bytes of the entry points
+pub next-task-answered : (t : Tables) (call : Call) (priorities : List ℕ) → callFits call ≡ true → Agrees t
+    → let o = step t call priorities in NextIs (o .tables) (o .answer .next)
+next-task-answered = answered-next
+
+pub next-task-in-the-bytes : (bs : List ℕ) (call : Call) (priorities : List ℕ) → Bytes bs → agreesBytes bs ≡ true → callFits call ≡ true
+    → let r = replyTo bs call priorities in NextIs (modelOf (r .bytes)) (r .answer .next)
+next-task-in-the-bytes = entries.next-after-bytes
+
+-- callers with records of their own get the same: their function promises `next` of the tables that have but the tasks and the sequence
+pub next-task-of-records : (t : Tables) → next (withReady (withTasks unstarted (t .tasks)) (t .ready)) ≡ next t
+next-task-of-records = as-the-core
+
+-- the order itself, for every call: the sequence after it is those that were ready before and still are, in their old order, followed by those that it
+-- made ready: a release's one task, a delete's and a flush's in queue order, a tick's and a start's in task number order; no other call makes any ready
+pub sequence-after-every-call : (t : Tables) (call : Call) (priorities : List ℕ) → Agrees t
+    → let u = step t call priorities .tables in u .ready ≡ sequenceAfter t call u
+sequence-after-every-call = ready-order
+
+-- and so over the bytes of the entry points
+pub sequence-in-the-bytes : (bs : List ℕ) (call : Call) (priorities : List ℕ) → Bytes bs → agreesBytes bs ≡ true → callFits call ≡ true
+    → let u = modelOf (replyTo bs call priorities .bytes) in u .ready ≡ sequenceAfter (modelOf bs) call u
+sequence-in-the-bytes = entries.sequence-after-bytes
+
+-- P1 to P15 as calls, the tables that P15 leaves, and all as a session's text
 pub cases-as-calls : answersOf (requests vectors.worked)
     ++ lastOf (vectors.one 4294967295 0) (ask (Release 1 65537))
     ∷ lastOf (vectors.one 1 32) (ask (Release 0 65537))
     ∷ lastOf (vectors.one 1 16) (ask (Release 0 65537))
-    ∷ []
-    ≡ expected vectors.worked ++ says 13 0 1 ∷ says 13 0 1 ∷ says 23 0 1 ∷ []
-cases-as-calls = vectors.P1-P14
+    ∷ answersOf (requests vectors.equals)
+    ≡ expected vectors.worked ++ says 13 0 1 ∷ says 13 0 1 ∷ says 23 0 1 ∷ expected vectors.equals
+cases-as-calls = vectors.P1-P15
 
 pub cases-as-text : session worked.input ≡ worked.output
 cases-as-text = worked.P1-P11-as-text
+
+pub others-as-text : (session worked.P12-input ≡ worked.P12-output) × (session worked.P13-input ≡ worked.P13-output)
+    × (session worked.P14-input ≡ worked.P14-output) × (session worked.P15-input ≡ worked.P15-output)
+others-as-text = worked.P12-P15-as-text
+
+pub equals-leave : tablesOf (requests vectors.equals) ≡ record {
+  tasks = record { priority = 10; answer = 0; awaited = 0; ticks = 0 } ∷ record { priority = 10; answer = 0; awaited = 0; ticks = 0 } ∷ [];
+  slots = record { generation = 1; live = 1; name = 77; attributes = 0; count = 0; owner = 0; nest = 0; queue = [] } ∷ [];
+  ready = 2 ∷ 1 ∷ [];
+}
+equals-leave = vectors.P15-leaves
 
 -- agreement is kept by every call and tick, and by every run of entry points over the bytes
 pub agreement-kept : (t : Tables) (call : Call) (priorities : List ℕ) → callFits call ≡ true → Agrees t → Agrees (step t call priorities .tables)

@@ -1,15 +1,20 @@
 -- `agreement::is_agreeing` meets its contract: each return is a case of the whole test.
 use borrow.Author.Needs.{needs}
-use mathlib.Core.Path.{_≡_, refl, ap₂, sym, _∙_}
-use mathlib.Core.Bool.{true, false}
+use mathlib.Core.Path.{_≡_, refl, ap, ap₂, sym, _∙_}
+use mathlib.Core.Bool.{Bool, true, false}
+use mathlib.Core.List.{List}
+use Prim.Native.Nat.{ℕ}
+use lib.ListN.{length}
 use borrow.Author.Tests.{not-true, not-false}
 use Rattle.laws.proofs.Choose.{cases}
 use Rattle.words.specs.Words.{wordAt}
 use Rattle.rules.specs.Agreement.{countsFit}
-use Rattle.tables.specs.Layout.{isLaid}
-use Rattle.agreement.specs.Tests.{seenBelow}
+use Rattle.rules.specs.Machine.{Tables}
+use Rattle.tables.specs.Layout.{isLaid, modelOf}
+use Rattle.agreement.specs.Tests.{seenAt, seenBelow, sequenceAgrees}
 use Rattle.agreement.specs.Bytes.{agreesBytes}
 use Rattle.tables.proofs.LayoutTest.{laid-bounded}
+use Rattle.agreement.proofs.Passes.{sequencePasses}
 use Rattle.agreement.proofs.Bytes.{bytesTests, bytes-tested}
 use Rattle.agreement.proofs.is_agreeing.Statement.{statement}
 use Rattle.agreement.proofs.is_agreeing.Tie as tie
@@ -25,6 +30,16 @@ counts : (c : tie.After-do-counts-fit)
     → c .do-counts-fit .result
     ≡ countsFit (wordAt (c .before .before .before .before .before .before .args .m .now) 0) (wordAt (c .before .before .before .before .before .before .args .m .now) 1)
 counts c = c .do-counts-fit .ensures ∙ ap₂ countsFit (c .before .before .task-count .ensures) (c .before .slot-count .ensures)
+
+-- the model of what is lent, where the pass over the sequence is made
+abbrev model : tie.After-is-sequence-agreeing → Tables
+model c = modelOf (c .before .before .before .before .before .before .before .before .before .before .before .before .args .m .now)
+
+sequenced : (c : tie.After-is-sequence-agreeing) → c .is-sequence-agreeing .result ≡ sequencePasses (model c)
+sequenced c =
+    let slots = c .before .before in
+    let marked = slots .before .are-slots-agreeing .ensures .marks (not-false _ (slots .if3 .left)) in
+    c .is-sequence-agreeing .ensures .answer ∙ ap (sequenceAgrees (model c)) marked
 
 is-layout-requires : tie.Need-is-layout-requires
 is-layout-requires c κs = search needs
@@ -63,20 +78,42 @@ returns-3 c =
     let h₃ = sym (c .before .are-slots-agreeing .ensures .answer) ∙ not-true _ (c .if3 .taken) in
     search cases ∙ tests (at .before)
 
-are-tasks-agreeing-requires : tie.Need-are-tasks-agreeing-requires
-are-tasks-agreeing-requires c κs =
-    let last = c .before in
-    let bounded = laid-bounded _ (laid (last .before .before .before .before .before .before .before)) in
-    (bounded, last .before .are-slots-agreeing .ensures .marks (not-false _ (last .if3 .left)))
+is-sequence-agreeing-requires : tie.Need-is-sequence-agreeing-requires
+is-sequence-agreeing-requires c κs = laid-bounded _ (laid (c .before .before .before .before .before .before .before .before))
 
 returns-4 : tie.Need-returns-4
 returns-4 c =
-    let last = c .before .before in
-    let passed = last .before .before .before in
+    let slots = c .before .before .before in
+    let passed = slots .before .before .before in
     let at = passed .before .before .before .before in
     let h₁ = laid at in
     let h₂ = sym (counts (passed .before)) ∙ not-false _ (passed .if2 .left) in
-    let h₃ = sym (last .before .are-slots-agreeing .ensures .answer) ∙ not-false _ (last .if3 .left) in
+    let h₃ = sym (slots .before .are-slots-agreeing .ensures .answer) ∙ not-false _ (slots .if3 .left) in
+    let h₄ = sym (sequenced (c .before)) ∙ not-true _ (c .if4 .taken) in
+    search cases ∙ tests (at .before)
+
+are-tasks-agreeing-requires : tie.Need-are-tasks-agreeing-requires
+are-tasks-agreeing-requires c κs =
+    let last = c .before in
+    let slots = last .before .before .before in
+    let bounded = laid-bounded _ (laid (slots .before .before .before .before .before .before .before)) in
+    let marked = slots .before .are-slots-agreeing .ensures .marks (not-false _ (slots .if3 .left)) in
+    let ready : List ℕ = model (last .before) .ready in (
+      bounded,
+      last .before .is-sequence-agreeing .ensures .marks (not-false _ (last .if4 .left))
+          ∙ ap (λ (seen : List Bool). seenAt seen ready (length ready)) marked,
+    )
+
+returns-5 : tie.Need-returns-5
+returns-5 c =
+    let last = c .before .before in
+    let slots = last .before .before .before in
+    let passed = slots .before .before .before in
+    let at = passed .before .before .before .before in
+    let h₁ = laid at in
+    let h₂ = sym (counts (passed .before)) ∙ not-false _ (passed .if2 .left) in
+    let h₃ = sym (slots .before .are-slots-agreeing .ensures .answer) ∙ not-false _ (slots .if3 .left) in
+    let h₄ = sym (sequenced (last .before)) ∙ not-false _ (last .if4 .left) in
     c .are-tasks-agreeing .ensures ∙ search cases ∙ tests (at .before)
 
 pub is-agreeing-spec : {M : Type 1} → statement M
@@ -91,5 +128,7 @@ is-agreeing-spec =
     returns-2
     are-slots-agreeing-requires
     returns-3
+    is-sequence-agreeing-requires
+    returns-4
     are-tasks-agreeing-requires
-    returns-4)
+    returns-5)

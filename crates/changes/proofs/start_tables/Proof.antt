@@ -1,4 +1,4 @@
--- `changes::start_tables` meets its contract. The invariant: the tasks passed are stored, behind the counts.
+-- `changes::start_tables` meets its contract. The invariant: the tasks passed are stored, behind the counts, and in the sequence.
 use borrow.Author.Needs.{needs}
 use mathlib.Core.Path.{_≡_}
 use Prim.Native.Nat.{_≤_, _-_}
@@ -35,6 +35,15 @@ new-task-requires c κs = search needs
 store-task-requires : tie.Need-store-task-requires Inv-loop μ-loop
 store-task-requires c κs = search needs
 
+cast-add-ready : tie.Need-cast-add-ready Inv-loop μ-loop
+cast-add-ready c = search needs
+
+add-add-ready : tie.Need-add-add-ready Inv-loop μ-loop
+add-add-ready c = search needs
+
+add-ready-requires : tie.Need-add-ready-requires Inv-loop μ-loop
+add-ready-requires c κs = search needs
+
 add-i : tie.Need-add-i Inv-loop μ-loop
 add-i c = search needs
 
@@ -43,13 +52,14 @@ loop-less c = search needs
 
 loop-again : tie.Need-loop-again Inv-loop μ-loop
 loop-again c =
-    let turn = c .before .before .before .before .before .before .before in
+    let store = c .before .before .before .before .before .before in
+    let turn = store .before .before .before .before .before in
     let first = turn .before .before .before .before .before .before .before .args in (
       omega arith,
-      omega (arith, c .before .before .store-task .kept),
-      started-more (turn .before .before .before .store-counts .last .0) (first .slots) (first .priorities .now) (turn .loop .m) _ (turn .loop .i) _
+      omega (arith, store .store-task .kept, c .before .before .add-ready .kept),
+      started-more (turn .before .before .before .store-counts .last .0) (first .slots) (first .priorities .now) (turn .loop .m) _ _ (turn .loop .i) _
           (omega arith) (omega arith)
-          (c .before .before .before .before .new-task .ensures) (c .before .before .store-task .ensures) (turn .loop .inv .2),
+          (store .before .before .new-task .ensures) (store .store-task .ensures) (c .before .before .add-ready .ensures) (turn .loop .inv .2),
     )
 
 same-length : tie.Need-same-length Inv-loop μ-loop
@@ -74,6 +84,9 @@ start-tables-spec =
     shared-slice-read-new-task
     new-task-requires
     store-task-requires
+    cast-add-ready
+    add-add-ready
+    add-ready-requires
     add-i
     loop-less
     loop-again

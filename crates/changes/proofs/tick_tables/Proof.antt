@@ -1,4 +1,4 @@
--- `changes::tick_tables` meets its contract: the flags, the slots and then the tasks.
+-- `changes::tick_tables` meets its contract: the flags, the slots, the tasks and then the sequence.
 use borrow.Author.Needs.{needs}
 use native.Mathlib.Omega.{arith}
 use Rattle.words.proofs.WordsInBytes.{Bytes}
@@ -28,18 +28,26 @@ tick-tasks-requires c κs =
     in
     (omega (arith, sized m₀ b₀ pre, slots .tick-slots .kept), few)
 
+tick-ready-requires : tie.Need-tick-ready-requires
+tick-ready-requires c κs =
+    let tasks = c .before .before .before in
+    let slots = tasks .before .before .before .before in
+    let start = slots .before .before .before .before in
+    let b₀ : Bytes (start .before .args .m .now) = λ k. omega (arith, start .slice-known .given k) in
+    omega (arith, sized (start .before .args .m .now) b₀ (start .before .pre), slots .tick-slots .kept, tasks .tick-tasks .kept)
+
 same-length : tie.Need-same-length
 same-length c = search needs
 
 returns : tie.Need-returns
 returns c =
-    let tasks = c .before .before in
+    let tasks = c .before .before .before .before .before .before in
     let slots = tasks .before .before .before .before in
     let flags = slots .before .before in
     let start = flags .before .before in
-    all-ticked (start .before .args .m .now) _ (flags .expired .result) (flags .expired .ensures) (slots .tick-slots .ensures) _ (tasks .tick-tasks .ensures)
+    all-ticked (start .before .args .m .now) _ (flags .expired .result) (flags .expired .ensures) (slots .tick-slots .ensures) _ _ (tasks .tick-tasks .ensures) (c .before .before .tick-ready .ensures)
 
 pub tick-tables-spec : {M : Type 1} → statement M
 tick-tables-spec =
     tie.close
-    (tie.spec expired-requires tick-slots-requires tick-tasks-requires same-length returns)
+    (tie.spec expired-requires tick-slots-requires tick-tasks-requires tick-ready-requires same-length returns)

@@ -1,11 +1,14 @@
 -- `changes::tick_tasks` meets its contract. The invariant: the tasks passed are ticked.
 use borrow.Author.Needs.{needs}
-use mathlib.Core.Path.{_≡_}
-use Prim.Native.Nat.{_≤_, _-_}
+use mathlib.Core.Path.{_≡_, sym, subst, ap, _∙_}
+use mathlib.Core.List.{List}
+use mathlib.Core.Logic.{⊎-elim}
+use Prim.Native.Nat.{ℕ, _+_, _-_, _≤_, _<_}
 use native.Mathlib.Omega.{arith}
 use lib.ListN.{length}
+use Rattle.words.specs.Words.{wordAt}
 use Rattle.words.proofs.WordsInBytes.{Bytes}
-use Rattle.changes.proofs.Ticks.{TickedUpTo, ticked-more, ticked-all}
+use Rattle.changes.proofs.Ticks.{TickedUpTo, ticked-more, ticked-same, ticked-all}
 use Rattle.changes.proofs.tick_tasks.Statement.{statement}
 use Rattle.changes.proofs.tick_tasks.Tie as tie
 
@@ -29,6 +32,9 @@ loop-holds c =
 load-task-requires : tie.Need-load-task-requires Inv-loop μ-loop
 load-task-requires c κs = search needs
 
+is-timed-requires : tie.Need-is-timed-requires Inv-loop μ-loop
+is-timed-requires c κs = search needs
+
 ticked-requires : tie.Need-ticked-requires Inv-loop μ-loop
 ticked-requires c κs = search needs
 
@@ -43,18 +49,31 @@ loop-less c = search needs
 
 loop-again : tie.Need-loop-again Inv-loop μ-loop
 loop-again c =
-    let step = c .before .before .before .before in
-    let turn = step .before .before .before .before in
+    let load = c .before .before in
+    let turn = load .before .before .before in
     let start = turn .before .before .before in
     let m₀ = start .before .args .m .now in
     let b₀ : Bytes m₀ = λ k. omega (arith, start .slice-known .given k) in
-    let n = turn .before .task-count .ensures in (
+    let n = turn .before .task-count .ensures in
+    let few : turn .loop .i < 32 = omega (arith, n, start .before .pre) in
+    let inside : turn .loop .i < wordAt m₀ 0 = omega (arith, n) in
+    let i = turn .loop .i in
+    let read = load .load-task .ensures in
+    let passed = turn .loop .inv in
+    ⊎-elim
+    (λ w. subst (λ (m : List ℕ). Inv-loop m₀ (turn .before .task-count .result) 0 m (i + 1)) (sym (w .6)) (
       omega arith,
-      omega (arith, c .before .before .store-task .kept),
-      λ k. omega (arith, c .slice-known2 .given k),
-      ticked-more m₀ b₀ (turn .loop .m) _ (turn .loop .i) _ _ (turn .loop .inv .2) (omega (arith, n, start .before .pre)) (omega (arith, n))
-          (step .before .load-task .ensures) (step .ticked .ensures) (c .before .before .store-task .ensures) (turn .loop .inv .3),
-    )
+      omega (arith, w .3 .kept),
+      λ k. omega (arith, w .5 .given k),
+      ticked-more m₀ b₀ (turn .loop .m) i _ (passed .2) few inside read (passed .3) _ _ (w .1 .ensures) (w .3 .ensures),
+    ))
+    (λ w. subst (λ (m : List ℕ). Inv-loop m₀ (turn .before .task-count .result) 0 m (i + 1)) (sym (w .1)) (
+      omega arith,
+      passed .1,
+      passed .2,
+      ticked-same m₀ b₀ (turn .loop .m) i _ (passed .2) few inside read (passed .3) (sym (c .before .is-timed .ensures) ∙ w .0 .left),
+    ))
+    (c .if1 .came)
 
 same-length : tie.Need-same-length Inv-loop μ-loop
 same-length c = search needs
@@ -77,6 +96,7 @@ tick-tasks-spec =
     cast-tasks
     loop-holds
     load-task-requires
+    is-timed-requires
     ticked-requires
     store-task-requires
     add-i

@@ -1,4 +1,4 @@
--- `changes::wake` meets its contract: the task that is read from the bytes is the tables' own.
+-- `changes::wake` meets its contract: the task that is read from the bytes is the tables' own, and joins the sequence.
 use borrow.Author.Needs.{needs}
 use native.Mathlib.Omega.{arith}
 use Rattle.rules.specs.Calls.{readied}
@@ -18,16 +18,20 @@ readied-requires c κs = search needs
 put-task-requires : tie.Need-put-task-requires
 put-task-requires c κs = search needs
 
+add-ready-requires : tie.Need-add-ready-requires
+add-ready-requires c κs = search needs
+
 same-length : tie.Need-same-length
 same-length c = search needs
 
 returns : tie.Need-returns
 returns c =
-    let ready = c .before .before .before .before in
+    let put = c .before .before .before .before .before .before in
+    let ready = put .before .before in
     let start = ready .before .before .before in
     let first = start .before .args in
-    task-woken (first .m .now) _ (first .q) (first .answer) _ _ (λ k. omega (arith, start .slice-known .given k)) (omega arith) (omega arith)
-    (ready .before .load-task .ensures) (ready .readied .ensures) (c .before .before .put-task .ensures)
+    task-woken (first .m .now) _ _ (first .q) (first .answer) _ _ (λ k. omega (arith, start .slice-known .given k)) (omega arith) (omega arith)
+    (ready .before .load-task .ensures) (ready .readied .ensures) (put .put-task .ensures) (c .before .before .add-ready .ensures)
 
 pub wake-spec : {M : Type 1} → statement M
 wake-spec =
@@ -37,5 +41,6 @@ wake-spec =
     load-task-requires
     readied-requires
     put-task-requires
+    add-ready-requires
     same-length
     returns)

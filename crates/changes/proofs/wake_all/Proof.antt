@@ -53,10 +53,10 @@ same-length : tie.Need-same-length Inv-loop μ-loop
 same-length c = search needs
 
 returns : tie.Need-returns Inv-loop μ-loop
-returns c t e n =
+returns c t e n few =
     let first = c .before .before .before .args in
     let k : c .before .loop .k ≡ first .waiters = omega arith in
-    c .before .loop .inv .2 t e n ∙ ap (λ (k : ℕ). laid (wakeAll t (take k (first .t2)) (first .answer))) k
+    c .before .loop .inv .2 t e n few ∙ ap (λ (k : ℕ). laid (wakeAll t (take k (first .t2)) (first .answer))) k
 
 pub wake-all-spec : {M : Type 1} → statement M
 wake-all-spec =

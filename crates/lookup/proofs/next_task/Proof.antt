@@ -1,62 +1,73 @@
--- `lookup::next_task` meets its contract. The invariant: the look at what is left of the tasks gives the next task.
+-- `lookup::next_task` meets its contract. The invariant: the look at what is left of the sequence gives the next task.
 use borrow.Author.Needs.{needs}
-use mathlib.Core.Path.{_≡_, refl, sym, _∙_}
+use mathlib.Core.Path.{_≡_, sym, _∙_}
 use Prim.Native.Nat.{_-_, _≤_, _<_}
 use native.Mathlib.Omega.{arith}
 use lib.ListN.{length}
 use Rattle.words.specs.Words.{wordAt}
-use Rattle.rules.specs.Machine.{next}
-use Rattle.tables.specs.Layout.{modelOf}
-use Rattle.lookup.proofs.Model.{length-tasks, task-read}
-use Rattle.lookup.proofs.Searches.{UrgentFrom, urgent-more, urgent-all}
+use Rattle.rules.proofs.Choosing.{UrgentFrom, urgent-begun, urgent-more, urgent-all}
+use Rattle.tables.specs.Layout.{readyPlace, modelOf}
+use Rattle.tables.proofs.LayoutRead.{length-ready, ready-read}
+use Rattle.lookup.proofs.Model.{length-tasks}
 use Rattle.lookup.proofs.next_task.Statement.{statement}
 use Rattle.lookup.proofs.next_task.Tie as tie
 
 abbrev Inv-loop : tie.InvT-loop
-Inv-loop m n best₀ i₀ best i = (i ≤ n) × (n ≡ wordAt m 0) × UrgentFrom (modelOf m .tasks) i (best .task) (best .priority)
+Inv-loop m tasks ready best₀ k₀ best k = (k ≤ ready) × UrgentFrom (modelOf m) k (best .task) (best .priority)
 
 abbrev μ-loop : tie.MeasureT-loop
-μ-loop m n best₀ i₀ best i = n - i
+μ-loop m tasks ready best₀ k₀ best k = ready - k
 
 task-count-requires : tie.Need-task-count-requires Inv-loop μ-loop
 task-count-requires c κs = search needs
 
+cast-tasks : tie.Need-cast-tasks Inv-loop μ-loop
+cast-tasks c = search needs
+
+ready-count-requires : tie.Need-ready-count-requires Inv-loop μ-loop
+ready-count-requires c κs = search needs
+
+cast-ready : tie.Need-cast-ready Inv-loop μ-loop
+cast-ready c = search needs
+
 loop-holds : tie.Need-loop-holds Inv-loop μ-loop
-loop-holds c = (omega arith, c .task-count .ensures, refl)
+loop-holds c = (omega arith, urgent-begun (modelOf (c .before .before .before .args .m .now)))
 
-cast-load-task : tie.Need-cast-load-task Inv-loop μ-loop
-cast-load-task c = search needs
+ready-entry-requires : tie.Need-ready-entry-requires Inv-loop μ-loop
+ready-entry-requires c κs = search needs
 
-load-task-requires : tie.Need-load-task-requires Inv-loop μ-loop
-load-task-requires c κs = search needs
-
-add-better : tie.Need-add-better Inv-loop μ-loop
-add-better c = search needs
+priority-of-requires : tie.Need-priority-of-requires Inv-loop μ-loop
+priority-of-requires c κs = search needs
 
 better-requires : tie.Need-better-requires Inv-loop μ-loop
 better-requires c κs = search needs
 
-add-i : tie.Need-add-i Inv-loop μ-loop
-add-i c = search needs
+add-k : tie.Need-add-k Inv-loop μ-loop
+add-k c = search needs
 
 loop-less : tie.Need-loop-less Inv-loop μ-loop
 loop-less c = search needs
 
 loop-again : tie.Need-loop-again Inv-loop μ-loop
 loop-again c =
-    let turn = c .before .before .before .loop in
-    let bs = c .before .before .before .before .before .before .args .m .now in
-    let h : turn .i < wordAt bs 0 = omega arith in
-    let r = c .before .load-task .ensures ∙ sym (task-read bs (turn .i) h) in
-    let l : turn .i < length (modelOf bs .tasks) = omega (arith, length-tasks bs) in
-    (omega arith, turn .inv .1, urgent-more (modelOf bs .tasks) (turn .i) _ _ _ _ _ l r (turn .inv .2) (c .better .ensures))
+    let turn = c .before .before .before .before .loop in
+    let counts = c .before .before .before .before .before in
+    let first = counts .before .before .before in
+    let bs = first .args .m .now in
+    let h : turn .k < wordAt bs readyPlace = omega arith in
+    let l : turn .k < length (modelOf bs .ready) = omega (arith, length-ready bs (first .pre .ready)) in
+    let n = length-tasks bs ∙ sym (counts .before .task-count .ensures) in (
+      omega arith,
+      urgent-more (modelOf bs) (turn .k) _ _ _ _ _ l (c .before .before .ready-entry .ensures ∙ sym (ready-read bs (turn .k) h)) (turn .inv .1)
+          (λ qs. c .better .ensures (modelOf bs) qs n (λ is. sym (c .before .priority-of .ensures))),
+    )
 
 returns : tie.Need-returns Inv-loop μ-loop
-unfolding next
 returns c =
     let last = c .before .loop in
-    let bs = c .before .before .before .before .args .m .now in
-    urgent-all (modelOf bs .tasks) (last .i) _ _ (omega (arith, length-tasks bs)) (last .inv .2)
+    let first = c .before .before .before .before .before in
+    let bs = first .args .m .now in
+    urgent-all (modelOf bs) (last .k) _ _ (omega (arith, length-ready bs (first .pre .ready))) (last .inv .1)
 
 pub next-task-spec : {M : Type 1} → statement M
 next-task-spec =
@@ -65,12 +76,14 @@ next-task-spec =
     Inv-loop
     μ-loop
     task-count-requires
+    cast-tasks
+    ready-count-requires
+    cast-ready
     loop-holds
-    cast-load-task
-    load-task-requires
-    add-better
+    ready-entry-requires
+    priority-of-requires
     better-requires
-    add-i
+    add-k
     loop-less
     loop-again
     returns)

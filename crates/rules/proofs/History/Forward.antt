@@ -7,7 +7,7 @@ use native.Mathlib.Omega.{arith}
 use lib.ListN.{length, getD, set, length-set, List·getD-map}
 use Rattle.laws.proofs.Fit.{set-cases}
 use Rattle.rules.specs.Numbers.{maxGeneration}
-use Rattle.rules.specs.Machine.{Slot, Tables, freeSlot, slotOf, putSlot, isLive}
+use Rattle.rules.specs.Machine.{Slot, Tables, freeSlot, withSlots, slotOf, putSlot, isLive}
 use Rattle.rules.specs.Calls.{wakeAll, stillWaiting, tickedSlot}
 
 pub record Onward (s s′ : Slot) : Type 0 where
@@ -53,7 +53,7 @@ forward-trans a b = record { sameSize = cc; onward = λ n. onward-trans (a .onwa
 -- the slots alone decide
 pub forward-slots : {t t′ : Tables} (u : Tables) → u .slots ≡ t′ .slots → Forward t t′ → Forward t u
 forward-slots {t} {t′} u e f =
-    subst (λ (l : List Slot). Forward t (record { tasks = u .tasks; slots = l })) (sym e) (record { sameSize = f .sameSize; onward = f .onward })
+    subst (λ (l : List Slot). Forward t (withSlots u l)) (sym e) (record { sameSize = f .sameSize; onward = f .onward })
 
 pub forward-put : (t : Tables) (n : ℕ) (s : Slot) → Onward (slotOf t n) s → Forward t (putSlot t n s)
 forward-put t n s o = record {

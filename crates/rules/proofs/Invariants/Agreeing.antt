@@ -1,4 +1,4 @@
--- Agreement as a record, as one test, and item by item: the clauses that speak of one task, and those that speak of one slot.
+-- Agreement as a record, as one test, and item by item: the clauses that speak of one task, of one slot, and of one place of the sequence.
 use mathlib.Core.Path.{_≡_, refl}
 use mathlib.Core.Bool.{Bool, true, false}
 use mathlib.Core.Logic.{⊎-elim}
@@ -6,7 +6,7 @@ use Prim.Native.Nat.{ℕ, suc, _*_, _≤_, _<_}
 use native.Mathlib.Omega.{arith}
 use native.Mathlib.Nat.{not-suc-le-zero}
 use lib.Dec.{eqb}
-use lib.ListN.{length}
+use lib.ListN.{length, getD}
 use borrow.Author.Tests.{leb-true, eqb-true}
 use Rattle.laws.specs.Choose.{choose, _and_, when, isnt}
 use Rattle.laws.proofs.Choose.{and-both, both-and, or-either, when-then, then-when, isnt-false, false-isnt}
@@ -16,7 +16,8 @@ use Rattle.rules.specs.declared.Task.{Task}
 use Rattle.rules.specs.Numbers.{maxTasks, maxSlots, allowed, byPriority, isBinary}
 use Rattle.rules.specs.Machine.{Slot, Tables, unstarted, taskOf, slotOf, waits, isLive, idOf}
 use Rattle.rules.specs.Agreement.{Agrees, agrees, sizesFit, numbersFit, answersFit, liveNamed, attributesAllowed, waitersQueued, queuesWait}
-use Rattle.rules.specs.Agreement.{queuesOrdered, queuedAtZero, binariesRight, othersRight, readyAtRest, freeSlotsClear, eachLive}
+use Rattle.rules.specs.Agreement.{queuesOrdered, queuedAtZero, binariesRight, othersRight, readyAtRest, freeSlotsClear, eachLive, occurs}
+use Rattle.rules.specs.Agreement.{readySequenced, sequenceReady, isReadyTask}
 use Rattle.rules.specs.Agreement.{taskInLimits, answerFits, isQueuedOnce, isAtRest, slotInLimits, isNamedRight, allWaitOn, isOrdered}
 use Rattle.rules.specs.Agreement.{isZeroWhereQueued, isBinaryRight, isOtherRight, isClear}
 
@@ -25,7 +26,8 @@ unfolding agrees
 agrees-true t a =
     both-and (a .sizes) (both-and (a .numbers) (both-and (a .answers) (both-and (a .named) (both-and (a .attributed)
     (both-and (a .waiters)
-    (both-and (a .queues) (both-and (a .ordered) (both-and (a .atZero) (both-and (a .owned) (both-and (a .unowned) (both-and (a .atRest) (a .clear))))))))))))
+    (both-and (a .queues) (both-and (a .ordered) (both-and (a .atZero) (both-and (a .owned) (both-and (a .unowned) (both-and (a .atRest)
+    (both-and (a .clear) (both-and (a .sequenced) (a .onlyReady))))))))))))))
 
 pub true-agrees : (t : Tables) → agrees t ≡ true → Agrees t
 unfolding agrees
@@ -42,6 +44,8 @@ true-agrees t e₁ =
     let e₁₁ = and-both _ _ (e₁₀ .1) in
     let e₁₂ = and-both _ _ (e₁₁ .1) in
     let e₁₃ = and-both _ _ (e₁₂ .1) in
+    let e₁₄ = and-both _ _ (e₁₃ .1) in
+    let e₁₅ = and-both _ _ (e₁₄ .1) in
     record {
       sizes = e₂ .0;
       numbers = e₃ .0;
@@ -55,7 +59,9 @@ true-agrees t e₁ =
       owned = e₁₁ .0;
       unowned = e₁₂ .0;
       atRest = e₁₃ .0;
-      clear = e₁₃ .1;
+      clear = e₁₄ .0;
+      sequenced = e₁₅ .0;
+      onlyReady = e₁₅ .1;
     }
 
 -- ---- N and S
@@ -91,6 +97,7 @@ pub record TaskAgrees (t : Tables) (q : ℕ) (v : Task) : Type 0 where
   pub answer : answerFits v ≡ true
   pub waiter : waits v ≡ true → isQueuedOnce t q (v .awaited) ≡ true
   pub atRest : waits v ≡ false → isAtRest v ≡ true
+  pub sequenced : waits v ≡ false → eqb (occurs q (t .ready)) 1 ≡ true
 
 -- slot n, s in the tables, if it is live
 pub record LiveAgrees (t : Tables) (n : ℕ) (s : Slot) : Type 0 where
@@ -111,6 +118,7 @@ pub record ItemsAgree (t : Tables) : Type 0 where
   pub sizes : sizesFit t ≡ true
   pub task : (i : ℕ) → i < length (t .tasks) → TaskAgrees t (suc i) (taskOf t (suc i))
   pub slot : (j : ℕ) → j < length (t .slots) → SlotAgrees t (suc j) (slotOf t (suc j))
+  pub place : (k : ℕ) → k < length (t .ready) → isReadyTask t (getD (t .ready) k 0) ≡ true
 
 module _ (t : Tables) where
   live-at : (p : ℕ → Slot → Bool) → eachLive t p ≡ true
@@ -119,6 +127,7 @@ module _ (t : Tables) where
 
   pub agrees-items : Agrees t → ItemsAgree t
   unfolding numbersFit answersFit liveNamed attributesAllowed waitersQueued queuesWait queuesOrdered queuedAtZero binariesRight othersRight readyAtRest freeSlotsClear
+      readySequenced sequenceReady
   agrees-items a =
       let numbers = and-both _ _ (a .numbers) in
       record {
@@ -128,6 +137,7 @@ module _ (t : Tables) where
           answer = all-at _ _ (a .answers) i h;
           waiter = when-then _ _ (all-at _ _ (a .waiters) i h);
           atRest = λ w. when-then _ _ (all-at _ _ (a .atRest) i h) (false-isnt _ w);
+          sequenced = λ w. when-then _ _ (all-at _ _ (a .sequenced) i h) (false-isnt _ w);
         };
         slot = λ j h. record {
           numbers = all-at _ _ (numbers .1) j h;
@@ -142,10 +152,12 @@ module _ (t : Tables) where
           };
           whenFree = λ l. when-then _ _ (all-at _ _ (a .clear) j h) (false-isnt _ l);
         };
+        place = all-at _ _ (a .onlyReady);
       }
 
   pub items-agree : ItemsAgree t → Agrees t
   unfolding numbersFit answersFit liveNamed attributesAllowed waitersQueued queuesWait queuesOrdered queuedAtZero binariesRight othersRight readyAtRest freeSlotsClear
+      readySequenced sequenceReady
   items-agree a =
       record {
         sizes = a .sizes;
@@ -161,6 +173,8 @@ module _ (t : Tables) where
         unowned = each (λ n s. when (isnt (isBinary (s .attributes))) (isOtherRight s)) (λ j h l. then-when _ _ (λ b. live j h l .unowned (isnt-false _ b)));
         atRest = all-of _ _ (λ i h. then-when _ _ (λ w. a .task i h .atRest (isnt-false _ w)));
         clear = all-of _ _ (λ j h. then-when _ _ (λ l. a .slot j h .whenFree (isnt-false _ l)));
+        sequenced = all-of _ _ (λ i h. then-when _ _ (λ w. a .task i h .sequenced (isnt-false _ w)));
+        onlyReady = all-of _ _ (a .place);
       }
     where
       live : (j : ℕ) → j < length (t .slots) → isLive (slotOf t (suc j)) ≡ true → LiveAgrees t (suc j) (slotOf t (suc j))
@@ -173,4 +187,10 @@ module _ (t : Tables) where
 pub unstarted-agrees : Agrees unstarted
 unfolding choose sizesFit
 unstarted-agrees =
-    items-agree unstarted (record { sizes = refl; task = λ i h. absurd (not-suc-le-zero h); slot = λ j h. absurd (not-suc-le-zero h) })
+    items-agree unstarted
+    (record {
+      sizes = refl;
+      task = λ i h. absurd (not-suc-le-zero h);
+      slot = λ j h. absurd (not-suc-le-zero h);
+      place = λ k h. absurd (not-suc-le-zero h);
+    })

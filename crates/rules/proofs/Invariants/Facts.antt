@@ -13,7 +13,7 @@ use Rattle.laws.proofs.Choose.{never}
 use Rattle.rules.specs.declared.Task.{Task}
 use Rattle.rules.specs.Numbers.{maxPriority, maxGeneration, maxNumber, allowed, byPriority, isBinary, isSimple}
 use Rattle.rules.specs.Machine.{Slot, Tables, noTask, freeSlot, waits, isLive, urgency, idOf}
-use Rattle.rules.specs.Agreement.{occurs, answerFits, sizesFit}
+use Rattle.rules.specs.Agreement.{occurs, isReadyTask, answerFits, sizesFit}
 use Rattle.rules.proofs.Invariants.Lists.{Ascending}
 
 -- counted from 0
@@ -104,6 +104,8 @@ pub record Facts (t : Tables) : Type 0 where
   pub tasks : (i : ℕ) → TaskFits (nthTask t i)
   pub slots : (j : ℕ) → SlotFits (length (t .tasks)) (urgency t) (nthSlot t j)
   pub linked : Linked (nthTask t) (nthSlot t)
+  -- a task stands in the sequence once if it is ready, else not at all
+  pub ready : (q : ℕ) → occurs q (t .ready) ≡ bit (isReadyTask t q)
 
 -- ---- outside
 

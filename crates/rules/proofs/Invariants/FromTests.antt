@@ -2,16 +2,17 @@
 use mathlib.Core.Path.{_≡_, refl, sym, subst, _∙_}
 use mathlib.Core.Bool.{true, false}
 use mathlib.Core.Logic.{_⊎_, inl, inr, ⊎-elim}
-use Prim.Native.Nat.{ℕ, suc, pred, _%_, _/_, _+_, _*_, _≤_, _<_}
+use Prim.Native.Nat.{ℕ, zero, suc, pred, _%_, _/_, _+_, _*_, _≤_, _<_}
 use native.Mathlib.Omega.{arith}
 use lib.Dec.{leb}
 use lib.ListN.{length}
 use borrow.Author.Tests.{leb-true, eqb-true, eqb-false, le-leb}
+use Rattle.laws.specs.Choose.{bit}
 use Rattle.laws.proofs.Choose.{tested, never, and-both, or-either, when-then, isnt-false}
 use Rattle.laws.proofs.All.{all-at}
 use Rattle.rules.specs.Numbers.{maxPriority, isBinary}
 use Rattle.rules.specs.Machine.{Tables, noTask, freeSlot, slotOf, waits, isLive, urgency, idOf, names}
-use Rattle.rules.specs.Agreement.{Agrees, isWaiter, occurs}
+use Rattle.rules.specs.Agreement.{Agrees, isWaiter, isReadyTask, occurs}
 use Rattle.rules.proofs.Invariants.Lists.{ascending-of, bit-yes, bit-no, occurs-not}
 use Rattle.rules.proofs.Invariants.Agreeing.{LiveAgrees, ItemsAgree, sizes-within, agrees-items}
 use Rattle.rules.proofs.Invariants.Facts.{nthTask, nthSlot, waitsOn, TaskFits, Unheld, Held, Unowned, LiveFits, FreeFits, SlotFits, Names}
@@ -146,6 +147,17 @@ module _ (t : Tables) (a : ItemsAgree t) where
           ⊎-elim (λ (y : isWaiter t (idOf (suc j) (nthSlot t j)) (suc i) ≡ true). never (and-both _ _ y .1) e)
           (λ (n : isWaiter t (idOf (suc j) (nthSlot t j)) (suc i) ≡ false). n) (tested (isWaiter t (idOf (suc j) (nthSlot t j)) (suc i)))
 
+  sequenced : (q : ℕ) → isReadyTask t q ≡ true → occurs q (t .ready) ≡ 1
+  sequenced zero e = never (and-both _ _ (and-both _ _ e .0) .0) refl
+  sequenced (suc i) e =
+      let w = and-both _ _ e in
+      eqb-true _ _ (a .task i (leb-true _ _ (and-both _ _ (w .0) .1)) .sequenced (isnt-false _ (w .1)))
+
+  ready : (q : ℕ) → occurs q (t .ready) ≡ bit (isReadyTask t q)
+  ready q =
+      ⊎-elim (λ (e : isReadyTask t q ≡ true). sequenced q e ∙ sym (bit-yes _ e))
+      (λ (e : isReadyTask t q ≡ false). occurs-not (isReadyTask t) q e (t .ready) (a .place) ∙ sym (bit-no _ e)) (tested (isReadyTask t q))
+
   items-facts : Facts t
   items-facts =
       record {
@@ -154,6 +166,7 @@ module _ (t : Tables) (a : ItemsAgree t) where
         tasks = everywhere TaskFits (t .tasks) noTask none-fits task-fits;
         slots = everywhere (SlotFits (length (t .tasks)) (urgency t)) (t .slots) (freeSlot 0) (free-fits _ _ 0 (omega arith)) slot-fits;
         linked = record { counted = counted; named = λ i w. named-of t (nthTask t i .awaited) (waiter-once i w .0) };
+        ready = ready;
       }
 
 pub agrees-facts : (t : Tables) → Agrees t → Facts t

@@ -1,7 +1,7 @@
 -- Laws of lists by their places, of how often a number stands in a list, and of lists in order.
-use mathlib.Core.Path.{_≡_, refl, sym, subst}
+use mathlib.Core.Path.{_≡_, refl, sym, subst, _∙_}
 use mathlib.Core.Bool.{Bool, true, false}
-use mathlib.Core.List.{List, [], _∷_, map}
+use mathlib.Core.List.{List, [], _∷_, _++_, map}
 use mathlib.Core.Logic.{⊎-elim, _≢_}
 use Prim.Native.Nat.{ℕ, zero, suc, pred, _+_, _≤_, _<_}
 use native.Mathlib.Omega.{arith}
@@ -10,12 +10,17 @@ use native.Mathlib.Nat.{not-suc-le-zero, le-of-suc-le-suc}
 use lib.Dec.{leb, eqb}
 use lib.ListN.{length, getD, set, drop, List·getD-map}
 use lib.Seq.{getD-set-same, getD-set-other}
-use borrow.Author.Tests.{leb-true, leb-false, eqb-true, eq-eqb}
-use Rattle.laws.specs.Choose.{bit}
-use Rattle.laws.proofs.Fit.{set-cases}
-use Rattle.laws.proofs.Choose.{tested, if-yes, if-no, never, choose-cases}
+use borrow.Author.Tests.{leb-true, leb-false, eqb-true, eq-eqb, ne-eqb, le-leb}
+use Rattle.laws.specs.Choose.{choose, bit, _and_}
+use Rattle.laws.specs.Rows.{tabulate}
+use Rattle.laws.proofs.Fit.{set-cases, length-tabulate, getD-tabulate}
+use Rattle.laws.proofs.Choose.{tested, if-yes, if-no, never, choose-cases, and-both, both-and}
+use Rattle.rules.specs.declared.Task.{Task}
+use Rattle.rules.specs.Numbers.{within}
+use Rattle.rules.specs.Machine.{noTask}
 use Rattle.rules.specs.Agreement.{occurs}
 use Rattle.rules.specs.Semaphore.{ahead, insertAt}
+use Rattle.rules.specs.Calls.{upTo, without, expires, timedOut}
 
 -- ---- places
 
@@ -58,6 +63,11 @@ bit-no b e = if-no 1 0 e
 pub bit-true : (b : Bool) → 1 ≤ bit b → b ≡ true
 bit-true b h = ⊎-elim (λ (e : b ≡ true). e) (λ (e : b ≡ false). absurd (omega (arith, bit-no b e))) (tested b)
 
+pub bit-and : (a b : Bool) → bit (a and b) ≤ bit a
+bit-and a b =
+    ⊎-elim (λ (e : (a and b) ≡ true). omega (arith, bit-yes (a and b) e, bit-yes a (and-both a b e .0)))
+    (λ (e : (a and b) ≡ false). omega (arith, bit-no (a and b) e)) (tested (a and b))
+
 pub bit-same : (q : ℕ) → bit (eqb q q) ≡ 1
 bit-same q = if-yes 1 0 (eq-eqb q q refl)
 
@@ -98,6 +108,99 @@ occurs-insert q x (suc k) (y ∷ ys) = omega (arith, occurs-cons q y (insertAt k
 pub occurs-first : (q : ℕ) (xs : List ℕ) → 1 ≤ length xs → occurs q xs ≡ bit (eqb q (getD xs 0 0)) + occurs q (drop 1 xs)
 occurs-first q [] h = absurd (not-suc-le-zero h)
 occurs-first q (x ∷ xs) h = occurs-cons q x xs
+
+-- one list behind another
+pub occurs-append : (q : ℕ) (xs ys : List ℕ) → occurs q (xs ++ ys) ≡ occurs q xs + occurs q ys
+occurs-append q [] ys = omega (arith, occurs-none q)
+occurs-append q (x ∷ xs) ys = omega (arith, occurs-cons q x (xs ++ ys), occurs-cons q x xs, occurs-append q xs ys)
+
+-- a sequence without task c
+pub occurs-without : (q c : ℕ) (xs : List ℕ) → occurs q (without c xs) ≡ choose (eqb q c) 0 (occurs q xs)
+unfolding without
+occurs-without q c xs = choose-cases (λ (n : ℕ). occurs q (without c xs) ≡ n) (eqb q c) 0 (occurs q xs) (λ e. gone (eqb-true q c e) xs) (λ e. stays e xs)
+  where
+    gone : q ≡ c → (xs : List ℕ) → occurs q (without c xs) ≡ 0
+    gone s [] = occurs-none q
+    gone s (x ∷ xs) =
+        choose-cases (λ (l : List ℕ). occurs q l ≡ 0) (eqb c x) (without c xs) (x ∷ without c xs) (λ e. gone s xs)
+        (λ e. omega (arith, occurs-cons q x (without c xs), bit-no (eqb q x) (rw s e), gone s xs))
+
+    stays : eqb q c ≡ false → (xs : List ℕ) → occurs q (without c xs) ≡ occurs q xs
+    stays n [] = refl
+    stays n (x ∷ xs) =
+        choose-cases (λ (l : List ℕ). occurs q l ≡ occurs q (x ∷ xs)) (eqb c x) (without c xs) (x ∷ without c xs)
+        (λ e. omega (arith, occurs-cons q x xs, bit-no (eqb q x) (rw (eqb-true c x e) at n), stays n xs))
+        (λ e. omega (arith, occurs-cons q x xs, occurs-cons q x (without c xs), stays n xs))
+
+-- numbers that go up by one from m
+module _ (q : ℕ) where
+  run-below : (n : ℕ) (f : ℕ → ℕ) (m : ℕ) → ((i : ℕ) → f i ≡ m + i) → q < m → occurs q (tabulate n f) ≡ 0
+  unfolding tabulate
+  run-below zero f m e h = occurs-none q
+  run-below (suc n) f m e h =
+      omega (
+        arith,
+        occurs-cons q (f 0) (tabulate n (λ i. f (suc i))),
+        bit-no (eqb q (f 0)) (ne-eqb q (f 0) (λ (s : q ≡ f 0). omega (arith, e 0))),
+        run-below n (λ i. f (suc i)) (suc m) (λ i. omega (arith, e (suc i))) (omega arith),
+      )
+
+  run-in : (n : ℕ) (f : ℕ → ℕ) (m : ℕ) → ((i : ℕ) → f i ≡ m + i) → m ≤ q → q < m + n → occurs q (tabulate n f) ≡ 1
+  unfolding tabulate
+  run-in zero f m e l h = absurd (omega arith)
+  run-in (suc n) f m e l h =
+      elim (ℕ-discrete q m) [
+        | yes s ↦
+            omega (
+              arith,
+              occurs-cons q (f 0) (tabulate n (λ i. f (suc i))),
+              bit-yes (eqb q (f 0)) (eq-eqb q (f 0) (omega (arith, e 0))),
+              run-below n (λ i. f (suc i)) (suc m) (λ i. omega (arith, e (suc i))) (omega arith),
+            )
+        | no d ↦
+            omega (
+              arith,
+              occurs-cons q (f 0) (tabulate n (λ i. f (suc i))),
+              bit-no (eqb q (f 0)) (ne-eqb q (f 0) (λ (s : q ≡ f 0). omega (arith, e 0))),
+              run-in n (λ i. f (suc i)) (suc m) (λ i. omega (arith, e (suc i))) (omega arith) (omega arith),
+            )
+      ]
+
+pub occurs-upTo : (n q : ℕ) → occurs q (upTo n) ≡ bit (within 1 n q)
+occurs-upTo n q =
+    choose-cases (λ (b : ℕ). occurs q (upTo n) ≡ b) (within 1 n q) 1 0
+    (λ e. let w = and-both _ _ e in run-in q n suc 1 (λ i. omega arith) (leb-true 1 q (w .0)) (omega (arith, leb-true q n (w .1))))
+    (λ e. occurs-not (within 1 n) q e (upTo n) entry)
+  where
+    entry : (k : ℕ) → k < length (upTo n) → within 1 n (getD (upTo n) k 0) ≡ true
+    entry k h =
+        let b : k < n = rw length-tabulate at h in
+        rw (getD-tabulate n suc k 0 b) (both-and (le-leb 1 (suc k) (omega arith)) (le-leb (suc k) n b))
+
+-- the tasks of a list whose wait a tick ends, counted from m: no number below m, and the others each as its task says
+none-expires : expires noTask ≡ false
+none-expires = if-no _ _ refl
+
+pub timed-below : (vs : List Task) (m q : ℕ) → q < m → occurs q (timedOut vs m) ≡ 0
+unfolding timedOut
+timed-below [] m q h = occurs-none q
+timed-below (v ∷ vs) m q h =
+    let rest = timed-below vs (suc m) q (omega arith) in
+    choose-cases (λ (l : List ℕ). occurs q l ≡ 0) (expires v) (m ∷ timedOut vs (suc m)) (timedOut vs (suc m))
+    (λ e. omega (arith, rest, occurs-cons q m (timedOut vs (suc m)), bit-no (eqb q m) (ne-eqb q m (λ (s : q ≡ m). omega arith)))) (λ e. rest)
+
+pub timed-at : (vs : List Task) (m i q : ℕ) → q ≡ m + i → occurs q (timedOut vs m) ≡ bit (expires (getD vs i noTask))
+unfolding timedOut
+timed-at [] m i q s = occurs-none q ∙ sym (bit-no (expires noTask) none-expires)
+timed-at (v ∷ vs) m zero q s =
+    let rest = timed-below vs (suc m) q (omega arith) in
+    choose-cases (λ (l : List ℕ). occurs q l ≡ bit (expires v)) (expires v) (m ∷ timedOut vs (suc m)) (timedOut vs (suc m))
+    (λ e. omega (arith, rest, occurs-cons q m (timedOut vs (suc m)), bit-yes (eqb q m) (eq-eqb q m (omega arith)), bit-yes (expires v) e))
+    (λ e. omega (arith, rest, bit-no (expires v) e))
+timed-at (v ∷ vs) m (suc i) q s =
+    let rest = timed-at vs (suc m) i q (omega arith) in
+    choose-cases (λ (l : List ℕ). occurs q l ≡ bit (expires (getD vs i noTask))) (expires v) (m ∷ timedOut vs (suc m)) (timedOut vs (suc m))
+    (λ e. omega (arith, rest, occurs-cons q m (timedOut vs (suc m)), bit-no (eqb q m) (ne-eqb q m (λ (z : q ≡ m). omega arith)))) (λ e. rest)
 
 -- ---- lists in order
 

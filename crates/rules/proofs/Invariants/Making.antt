@@ -1,21 +1,22 @@
 -- start and create keep the facts.
-use mathlib.Core.Path.{_≡_, refl, sym, subst, subst₂, fun-ext}
-use mathlib.Core.Bool.{true, false}
+use mathlib.Core.Path.{_≡_, refl, sym, subst, subst₂, fun-ext, ap, _∙_}
+use mathlib.Core.Bool.{Bool, true, false}
 use mathlib.Core.List.{List, [], _∷_}
 use mathlib.Core.Logic.{⊎-elim}
-use Prim.Native.Nat.{ℕ, suc, _+_, _≤_, _<_}
+use Prim.Native.Nat.{ℕ, suc, pred, _+_, _≤_, _<_}
 use native.Mathlib.Omega.{arith}
 use lib.Dec.{leb, ltb, eqb}
 use lib.ListN.{length, getD, replicate, length-map, length-replicate, getD-replicate, List·getD-map}
 use borrow.Author.Tests.{eqb-false, leb-true, leb-false, ltb-true}
-use Rattle.laws.specs.Choose.{choose, _and_, _or_, isnt}
-use Rattle.laws.proofs.Choose.{tested, never, and-both, both-and, or-second, isnt-false, choose-cases}
+use Rattle.laws.specs.Choose.{choose, _and_, _or_, isnt, bit}
+use Rattle.laws.proofs.Choose.{tested, never, and-both, both-and, or-second, isnt-false, false-isnt, same-test, choose-cases}
 use Rattle.laws.specs.All.{all}
 use Rattle.laws.proofs.All.{all-at}
 use Rattle.rules.specs.Numbers.{maxTasks, maxSlots, maxPriority, maxGeneration, maxNumber, within, allowed, isBinary, isSimple}
-use Rattle.rules.specs.Machine.{Slot, Tables, freeSlot, slotOf, putSlot, isLive}
-use Rattle.rules.specs.Agreement.{sizesFit}
+use Rattle.rules.specs.Machine.{Slot, Tables, freeSlot, slotOf, putSlot, isLive, waits}
+use Rattle.rules.specs.Agreement.{sizesFit, isReadyTask}
 use Rattle.rules.specs.Calls.{newTask, startRefusal, started, start, firstFree, openSlot, createRefusal, newSemaphore, create, answered}
+use Rattle.rules.proofs.Invariants.Lists.{occurs-upTo}
 use Rattle.rules.proofs.Invariants.Facts.{nthTask, nthSlot, TaskFits, Linked, Facts, free-fits, everywhere}
 use Rattle.rules.proofs.Invariants.PartsKept.{created}
 use Rattle.rules.proofs.Invariants.Slots.{new-fits}
@@ -46,9 +47,14 @@ module _ (slots : ℕ) (priorities : List ℕ) where
   unfolding started
   slots-new = length-replicate slots (freeSlot 0)
 
+  ready-new : (q : ℕ) → within 1 (length priorities) q ≡ isReadyTask (started slots priorities) q
+  ready-new q =
+      rw (tasks-new, task-new (pred q))
+      (same-test _ _ (λ e. both-and e (false-isnt (waits (newTask (getD priorities (pred q) 0))) refl)) (λ e. and-both _ _ e .0))
+
   pub started-facts : (within 1 maxTasks (length priorities) and within 1 maxSlots slots) ≡ true
       → ((i : ℕ) → i < length priorities → within 1 maxPriority (getD priorities i 0) ≡ true) → Facts (started slots priorities)
-  unfolding sizesFit
+  unfolding sizesFit started
   started-facts sizes urgent =
       record {
         sizes = or-second _ _ (rw (tasks-new, slots-new) sizes);
@@ -60,6 +66,7 @@ module _ (slots : ℕ) (priorities : List ℕ) where
         linked =
             subst₂ Linked (fun-ext (λ i. sym (task-new i))) (fun-ext (λ j. sym (slot-new j)))
             (record { counted = λ i j l. never l refl; named = λ i w. never w refl });
+        ready = λ q. occurs-upTo (length priorities) q ∙ ap (λ (b : Bool). bit b) (ready-new q);
       }
 
 pub start-kept : (t : Tables) (slots : ℕ) (priorities : List ℕ) → Facts t → Facts (start t slots priorities .tables)

@@ -12,9 +12,9 @@ use Rattle.rules.specs.declared.Task.{Task}
 use Rattle.rules.specs.declared.Wait.{Wait}
 use Rattle.rules.specs.declared.Wait.the-variants.{Poll, Forever, Ticks}
 use Rattle.rules.specs.Numbers.{maxNumber, isBinary}
-use Rattle.rules.specs.Machine.{Slot, Tables, taskOf, slotOf, putSlot, putTask, isLive, urgency, idOf, names, slotNamed}
+use Rattle.rules.specs.Machine.{Slot, Tables, taskOf, slotOf, putSlot, isLive, urgency, idOf, names, slotNamed}
 use Rattle.rules.specs.Semaphore.{ticksOf, polls, placeOf, ownedBy, Taken, takeStep}
-use Rattle.rules.specs.Calls.{Outcome, answered, blocked, obtainRefusal, obtain}
+use Rattle.rules.specs.Calls.{Outcome, answered, beginWait, blocked, obtainRefusal, obtain}
 use Rattle.rules.specs.Fits.{waitFits}
 use Rattle.rules.proofs.Invariants.Lists.{occurs-insert}
 use Rattle.rules.proofs.Invariants.Facts.{nthTask, nthSlot, TaskFits, SlotFits, Facts}
@@ -33,7 +33,7 @@ blocked-fits v id wait i n = record { answer = or-first _ _ refl; awaited = i; t
 -- what a step of the semaphore leads to
 abbrev outcome : Tables → ℕ → ℕ → ℕ → Wait → Taken → Outcome
 outcome t n caller id wait taken =
-    choose (eqb (taken .status) 100) (answered 100 0 (putTask (putSlot t n (taken .slot)) caller (blocked (taskOf t caller) id wait)))
+    choose (eqb (taken .status) 100) (answered 100 0 (beginWait (putSlot t n (taken .slot)) caller (blocked (taskOf t caller) id wait)))
     (answered 0 0 (putSlot t n (taken .slot)))
 
 module _ (t : Tables) (f : Facts t) (c j id : ℕ) (wait : Wait) (who : Caller t (suc c)) (l : isLive (nthSlot t j) ≡ true) (is : id ≡ idOf (suc j) (nthSlot t j))
@@ -48,7 +48,7 @@ module _ (t : Tables) (f : Facts t) (c j id : ℕ) (wait : Wait) (who : Caller t
   refused : (s : Slot) → Keeps (record { status = 13; slot = s })
   refused s e = never refl e
 
-  waits-now : (s : Slot) → Facts (putTask (putSlot t (suc j) s) (suc c) (blocked (nthTask t c) id wait)) → Keeps (record { status = 100; slot = s })
+  waits-now : (s : Slot) → Facts (beginWait (putSlot t (suc j) s) (suc c) (blocked (nthTask t c) id wait)) → Keeps (record { status = 100; slot = s })
   waits-now s kept e = subst (λ (o : Outcome). Facts (o .tables)) (sym (if-yes _ _ refl)) kept
 
   pub take-kept : Keeps (takeStep (nthSlot t j) (suc c) (placeOf (urgency t) (nthSlot t j) (suc c)) wait)

@@ -1,22 +1,26 @@
--- A queue's entries are different tasks of the N: there is room in it for any task that does not wait.
+-- A queue's entries are different tasks of the N: there is room in it for any task that does not wait. So are those of the sequence of ready tasks, where
+-- there is room for those who wait.
 use mathlib.Core.Path.{_≡_, refl, sym, subst, ap, _∙_}
 use mathlib.Core.Bool.{true, false}
-use mathlib.Core.List.{List, [], _∷_}
+use mathlib.Core.List.{List, [], _∷_, _++_}
+use mathlib.Core.Logic.{⊎-elim}
 use Prim.Native.Nat.{ℕ, zero, suc, _+_, _≤_, _<_}
 use native.Mathlib.Nat.{not-suc-le-zero}
 use native.Mathlib.Omega.{arith}
 use native.Mathlib.Decide.{ℕ-discrete}
 use lib.Dec.{eqb}
 use lib.ListN.{length, getD}
-use borrow.Author.Tests.{ne-eqb}
+use borrow.Author.Tests.{ne-eqb, leb-true}
 use Rattle.laws.specs.Choose.{bit}
-use Rattle.laws.proofs.Choose.{and-both}
+use Rattle.laws.proofs.Choose.{tested, and-both}
 use Rattle.rules.specs.Machine.{Tables, waits, isLive}
-use Rattle.rules.specs.Agreement.{occurs}
-use Rattle.rules.proofs.Invariants.Lists.{bit-no, bit-same, occurs-none, occurs-cons, occurs-at}
+use Rattle.rules.specs.Agreement.{isReadyTask, occurs}
+use Rattle.rules.specs.Calls.{timedOut}
+use Rattle.rules.proofs.Invariants.Lists.{bit-no, bit-true, bit-same, bit-most, bit-and, occurs-none, occurs-cons, occurs-at, occurs-append}
+use Rattle.rules.proofs.Invariants.Lists.{timed-below, timed-at}
 use Rattle.rules.proofs.Invariants.Facts.{nthTask, nthSlot, Facts, waits-within}
 use Rattle.rules.proofs.Invariants.Links.{waits-there, once, nowhere}
-use Rattle.rules.proofs.Invariants.PartsKept.{below}
+use Rattle.rules.proofs.Invariants.PartsKept.{below, waits-outside}
 
 -- how many entries are of 1..n
 counts : ℕ → List ℕ → ℕ
@@ -68,6 +72,13 @@ counts-fewer (suc n) i xs f h e =
       | no d ↦ omega (arith, counts-fewer n i xs f (omega arith) e, f n)
     ]
 
+counts-append : (n : ℕ) (xs ys : List ℕ) → counts n (xs ++ ys) ≡ counts n xs + counts n ys
+unfolding counts
+counts-append zero xs ys = refl
+counts-append (suc n) xs ys = omega (arith, counts-append n xs ys, occurs-append (suc n) xs ys)
+
+-- ---- a queue
+
 module _ (t : Tables) (f : Facts t) (j : ℕ) (l : isLive (nthSlot t j) ≡ true) where
   -- a queue's entries are tasks of the N
   pub entry-within : (k : ℕ) → k < length (nthSlot t j .queue) → (1 ≤ getD (nthSlot t j .queue) k 0) × (getD (nthSlot t j .queue) k 0 ≤ length (t .tasks))
@@ -91,3 +102,56 @@ module _ (t : Tables) (f : Facts t) (j : ℕ) (l : isLive (nthSlot t j) ≡ true
         counts-all (length (t .tasks)) (nthSlot t j .queue) entry-within,
         counts-fewer (length (t .tasks)) i (nthSlot t j .queue) all-once h (nowhere (nthTask t) (nthSlot t) (below t f) (f .linked) i j w l),
       )
+
+-- ---- the sequence of ready tasks
+
+module _ (t : Tables) (f : Facts t) where
+  -- its entries are tasks of the N
+  pub ready-entry : (k : ℕ) → k < length (t .ready) → (1 ≤ getD (t .ready) k 0) × (getD (t .ready) k 0 ≤ length (t .tasks))
+  ready-entry k h =
+      let e = bit-true _ (subst (λ (n : ℕ). 1 ≤ n) (f .ready (getD (t .ready) k 0)) (occurs-at (t .ready) k h)) in
+      let w = and-both _ _ (and-both _ _ e .0) in
+      (leb-true _ _ (w .0), leb-true _ _ (w .1))
+
+  -- there is room behind it for different tasks that wait
+  pub ready-room : (xs : List ℕ) → occurs 0 xs ≡ 0 → ((i : ℕ) → occurs (suc i) xs ≤ bit (waits (nthTask t i)))
+      → length (t .ready) + length xs ≤ length (t .tasks)
+  ready-room xs none few =
+      omega (
+        arith,
+        counts-all (length (t .tasks)) (t .ready) ready-entry,
+        counts-all (length (t .tasks)) xs entry,
+        counts-append (length (t .tasks)) (t .ready) xs,
+        counts-most (length (t .tasks)) (t .ready ++ xs) single,
+      )
+    where
+      waiter : (q : ℕ) → 1 ≤ occurs q xs → (1 ≤ q) × (q ≤ length (t .tasks))
+      waiter zero o = absurd (omega arith)
+      waiter (suc i) o = (omega arith, waits-within t i (bit-true _ (omega (arith, few i))))
+
+      entry : (k : ℕ) → k < length xs → (1 ≤ getD xs k 0) × (getD xs k 0 ≤ length (t .tasks))
+      entry k h = waiter (getD xs k 0) (occurs-at xs k h)
+
+      -- a task is ready or waits
+      single : (q : ℕ) → occurs (suc q) (t .ready ++ xs) ≤ 1
+      single q =
+          ⊎-elim
+          (λ (w : waits (nthTask t q) ≡ true).
+          omega (arith, occurs-append (suc q) (t .ready) xs, few q, bit-most (waits (nthTask t q)), waits-outside t f q w))
+          (λ (w : waits (nthTask t q) ≡ false).
+          omega (arith, occurs-append (suc q) (t .ready) xs, few q, bit-no _ w, f .ready (suc q), bit-most (isReadyTask t (suc q))))
+          (tested (waits (nthTask t q)))
+
+  pub ready-few : length (t .ready) ≤ length (t .tasks)
+  ready-few = omega (arith, ready-room [] (occurs-none 0) (λ i. omega (arith, occurs-none (suc i))))
+
+  -- for the queue of a live slot
+  pub queue-joins : (j : ℕ) → isLive (nthSlot t j) ≡ true → length (t .ready) + length (nthSlot t j .queue) ≤ length (t .tasks)
+  queue-joins j l =
+      ready-room (nthSlot t j .queue) (f .slots j .whenLive l .entries) (λ i. rw (f .linked .counted i j l) (bit-and (waits (nthTask t i)) _))
+
+  -- for those whose wait a tick ends
+  pub timed-join : length (t .ready) + length (timedOut (t .tasks) 1) ≤ length (t .tasks)
+  timed-join =
+      ready-room (timedOut (t .tasks) 1) (timed-below (t .tasks) 1 0 (omega arith))
+      (λ i. rw (timed-at (t .tasks) 1 i (suc i) (omega arith)) (bit-and (waits (nthTask t i)) _))

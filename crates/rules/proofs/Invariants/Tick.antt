@@ -1,9 +1,9 @@
 -- A tick keeps the facts.
 use mathlib.Core.Path.{_≡_, refl, sym, subst, subst₂, fun-ext, ap, _∙_}
 use mathlib.Core.Bool.{Bool, true, false}
-use mathlib.Core.List.{List, [], _∷_, map}
+use mathlib.Core.List.{List, [], _∷_, _++_, map}
 use mathlib.Core.Logic.{inl, inr, ⊎-elim}
-use Prim.Native.Nat.{ℕ, suc, _≤_}
+use Prim.Native.Nat.{ℕ, zero, suc, _+_, _≤_}
 use native.Mathlib.Omega.{arith}
 use lib.Dec.{leb, eqb}
 use lib.ListN.{length, getD, length-map}
@@ -12,13 +12,14 @@ use Rattle.laws.specs.Choose.{choose, bit, _and_}
 use Rattle.laws.proofs.Choose.{tested, never, if-yes, if-no, and-both, choose-cases}
 use Rattle.rules.specs.declared.Task.{Task}
 use Rattle.rules.specs.Machine.{Slot, Tables, noTask, freeSlot, taskOf, waits, isLive, urgency}
-use Rattle.rules.specs.Agreement.{occurs}
-use Rattle.rules.specs.Calls.{expires, ticked, stillWaiting, tickedSlot, tick}
-use Rattle.rules.proofs.Invariants.Lists.{Ascending, ascending-lower, bit-no, occurs-none, occurs-cons, getD-map}
-use Rattle.rules.proofs.Invariants.Facts.{nthTask, nthSlot, TaskFits, Unheld, Held, SlotFits, Linked, Facts}
+use Rattle.rules.specs.Agreement.{isReadyTask, occurs}
+use Rattle.rules.specs.Calls.{expires, ticked, stillWaiting, tickedSlot, timedOut, tickedTables, tick}
+use Rattle.rules.proofs.Invariants.Lists.{Ascending, ascending-lower, bit-yes, bit-no, occurs-none, occurs-cons, occurs-append, getD-map}
+use Rattle.rules.proofs.Invariants.Lists.{timed-below, timed-at}
+use Rattle.rules.proofs.Invariants.Facts.{nthTask, nthSlot, TaskFits, Unheld, Held, SlotFits, Linked, Facts, waits-within}
 use Rattle.rules.proofs.Invariants.Links.{SameWait, ended}
 use Rattle.rules.proofs.Invariants.Waking.{timed-out-ends, readied-fits}
-use Rattle.rules.proofs.Invariants.PartsKept.{facts-step, below}
+use Rattle.rules.proofs.Invariants.PartsKept.{facts-step, below, ready-none, ready-yes, ready-same, waits-outside, none-outside}
 use Rattle.rules.proofs.Invariants.Slots.{counted-fits}
 
 -- ---- a task
@@ -156,9 +157,36 @@ tick-kept t f =
     (λ i e. ticked-woken (nthTask t i) e) (λ i e. ticked-same (nthTask t i) e)
     (λ j l. record { live = l; generation = refl; queue = λ i. still-occurs t (suc i) (nthSlot t j .queue) })
     (λ i j e l h. l)))
+    sequence
   where
     task-after : (i : ℕ) → getD (map ticked (t .tasks)) i noTask ≡ ticked (nthTask t i)
     task-after i = getD-map ticked (t .tasks) i noTask ticked-none
 
     slot-after : (j : ℕ) → getD (map (tickedSlot t) (t .slots)) j (freeSlot 0) ≡ tickedSlot t (nthSlot t j)
     slot-after j = getD-map (tickedSlot t) (t .slots) j (freeSlot 0) (ticked-free t)
+
+    sequence : (q : ℕ) → occurs q (t .ready ++ timedOut (t .tasks) 1) ≡ bit (isReadyTask (tickedTables t) q)
+    sequence zero =
+        omega (
+          arith,
+          occurs-append 0 (t .ready) (timedOut (t .tasks) 1),
+          none-outside t f,
+          timed-below (t .tasks) 1 0 (omega arith),
+          bit-no _ (ready-none (tickedTables t)),
+        )
+    sequence (suc i) = occurs-append (suc i) (t .ready) (timedOut (t .tasks) 1) ∙ ⊎-elim joins stays (tested (expires (nthTask t i)))
+      where
+        joins : expires (nthTask t i) ≡ true
+            → occurs (suc i) (t .ready) + occurs (suc i) (timedOut (t .tasks) 1) ≡ bit (isReadyTask (tickedTables t) (suc i))
+        joins e =
+            let w = and-both _ _ e .0 in
+            let is = ready-yes (tickedTables t) i (rw length-map (waits-within t i w))
+            (subst (λ (v : Task). waits v ≡ false) (sym (task-after i)) (ticked-woken (nthTask t i) e)) in
+            omega (arith, waits-outside t f i w, timed-at (t .tasks) 1 i (suc i) (omega arith), bit-yes _ e, bit-yes _ is)
+
+        stays : expires (nthTask t i) ≡ false
+            → occurs (suc i) (t .ready) + occurs (suc i) (timedOut (t .tasks) 1) ≡ bit (isReadyTask (tickedTables t) (suc i))
+        stays e =
+            let same = ready-same t (tickedTables t) i (length-map (t .tasks) ticked)
+            (ap (λ (v : Task). waits v) (task-after i) ∙ ap (λ (a : ℕ). eqb a 100) (ticked-same (nthTask t i) e .answer)) in
+            omega (arith, f .ready (suc i), timed-at (t .tasks) 1 i (suc i) (omega arith), bit-no _ e, ap (λ (b : Bool). bit b) same)

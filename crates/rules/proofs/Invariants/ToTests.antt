@@ -12,7 +12,7 @@ use Rattle.laws.specs.Choose.{_and_}
 use Rattle.laws.proofs.Choose.{and-both, both-and, or-first, or-second, then-when, false-isnt}
 use Rattle.laws.proofs.All.{all-of}
 use Rattle.rules.specs.Machine.{Slot, Tables, slotOf, waits, isLive, urgency, idOf, names}
-use Rattle.rules.specs.Agreement.{Agrees, isWaiter, isQueuedOnce, isBinaryRight, occurs, sizesFit}
+use Rattle.rules.specs.Agreement.{Agrees, isWaiter, isReadyTask, isQueuedOnce, isBinaryRight, occurs, sizesFit}
 use Rattle.rules.proofs.Invariants.Lists.{ascending-at, bit-yes, bit-true, occurs-at}
 use Rattle.rules.proofs.Invariants.Agreeing.{TaskAgrees, LiveAgrees, SlotAgrees, sizes-within, items-agree}
 use Rattle.rules.proofs.Invariants.Facts.{nthTask, nthSlot, waitsOn, Unheld, Held, Names, Facts, waits-within, live-within}
@@ -56,6 +56,8 @@ module _ (t : Tables) (f : Facts t) where
         answer = v .answer;
         waiter = once i;
         atRest = λ w. let r = v .atRest w in both-and (eq-eqb _ _ (r .0)) (eq-eqb _ _ (r .1));
+        sequenced = λ w.
+            eq-eqb _ _ (f .ready (suc i) ∙ bit-yes _ (both-and (both-and (le-leb 1 (suc i) (omega arith)) (le-leb _ _ h)) (false-isnt _ w)));
       }
 
   held : (s : Slot) → Unheld s ⊎ Held (length (t .tasks)) s → isBinaryRight (length (t .tasks)) s ≡ true
@@ -97,5 +99,9 @@ module _ (t : Tables) (f : Facts t) where
             (both-and (eq-eqb _ _ (c .owner)) (both-and (eq-eqb _ _ (c .nest)) (eq-eqb _ _ (c .queue))))));
       }
 
+  -- what stands in the sequence is ready
+  place : (k : ℕ) → k < length (t .ready) → isReadyTask t (getD (t .ready) k 0) ≡ true
+  place k h = bit-true _ (subst (λ (n : ℕ). 1 ≤ n) (f .ready (getD (t .ready) k 0)) (occurs-at (t .ready) k h))
+
   pub facts-agrees : Agrees t
-  facts-agrees = items-agree t (record { sizes = f .sizes; task = task; slot = λ j h. slot j })
+  facts-agrees = items-agree t (record { sizes = f .sizes; task = task; slot = λ j h. slot j; place = place })

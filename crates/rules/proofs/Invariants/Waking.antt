@@ -1,7 +1,7 @@
 -- What waking the tasks of a list does to each task.
 use mathlib.Core.Path.{_≡_, refl, sym, subst, ap, _∙_}
 use mathlib.Core.Bool.{true, false}
-use mathlib.Core.List.{List, [], _∷_}
+use mathlib.Core.List.{List, [], _∷_, _++_, append-nil, append-assoc}
 use mathlib.Core.Logic.{⊎-elim, _≢_}
 use Prim.Native.Nat.{ℕ, zero, suc, pred, _≤_, _<_}
 use native.Mathlib.Omega.{arith}
@@ -59,6 +59,11 @@ pub wakeAll-length : (qs : List ℕ) (t : Tables) (a : ℕ) → length (wakeAll 
 unfolding wakeAll
 wakeAll-length [] t a = refl
 wakeAll-length (q ∷ qs) t a = wakeAll-length qs (wake t q a) a ∙ length-set (t .tasks) (pred q) (readied (taskOf t q) a)
+
+pub wakeAll-ready : (qs : List ℕ) (t : Tables) (a : ℕ) → wakeAll t qs a .ready ≡ t .ready ++ qs
+unfolding wakeAll
+wakeAll-ready [] t a = sym (append-nil (t .ready))
+wakeAll-ready (q ∷ qs) t a = wakeAll-ready qs (wake t q a) a ∙ append-assoc (t .ready) (q ∷ []) qs
 
 -- the tasks of the list are readied, the others stay
 abbrev pub wokenOf : List ℕ → ℕ → ℕ → Task → Task

@@ -3,7 +3,7 @@ use borrow.Author.Needs.{needs}
 use mathlib.Core.Path.{_∙_, sym}
 use native.Mathlib.Omega.{arith}
 use borrow.Author.Tests.{not-true, not-false}
-use Rattle.tables.proofs.LoadStore.{wrong-length, tasks-beyond, slots-beyond, tasks-not-blank, queues-not-laid, slots-tested}
+use Rattle.tables.proofs.LoadStore.{wrong-length, tasks-beyond, slots-beyond, tasks-not-blank, queues-not-laid, slots-not-blank, slots-tested}
 use Rattle.tables.proofs.is_layout.Statement.{statement}
 use Rattle.tables.proofs.is_layout.Tie as tie
 
@@ -76,13 +76,30 @@ is-blank-requires-2 c κs = search needs
 
 returns-6 : tie.Need-returns-6
 returns-6 c =
-    let m = c .before .before .before .before .before .before .before .before .before .before .before .args .m .now in
-    let tasks = c .before .before .before .before .before .before .before .before .word in
-    let slots = c .before .before .before .before .before .before .before .word2 in
-    slots-tested m (tasks .result) (slots .result) (tasks .ensures) (slots .ensures) (omega arith) (omega arith) (omega arith) _
-    (sym (c .before .before .before .before .is-blank .ensures) ∙ not-false _ (c .before .before .before .if4 .left))
-    (sym (c .before .before .are-queues-laid .ensures) ∙ not-false _ (c .before .if5 .left))
-    (c .is-blank2 .ensures)
+    let queues = c .before .before in
+    let m = queues .before .before .before .before .before .before .before .before .before .before .args .m .now in
+    let tasks = queues .before .before .before .before .before .before .before .word in
+    let slots = queues .before .before .before .before .before .before .word2 in
+    slots-not-blank m (tasks .result) (slots .result) (tasks .ensures) (slots .ensures) (omega arith) (omega arith) (omega arith)
+    (sym (queues .before .before .before .is-blank .ensures) ∙ not-false _ (queues .before .before .if4 .left))
+    (sym (queues .before .are-queues-laid .ensures) ∙ not-false _ (queues .if5 .left))
+    (sym (c .before .is-blank2 .ensures) ∙ not-true _ (c .if6 .taken))
+
+is-sequence-laid-requires : tie.Need-is-sequence-laid-requires
+is-sequence-laid-requires c κs = search needs
+
+returns-7 : tie.Need-returns-7
+returns-7 c =
+    let queues = c .before .before .before in
+    let m = queues .before .before .before .before .before .before .before .before .before .before .args .m .now in
+    let tasks = queues .before .before .before .before .before .before .before .word in
+    let slots = queues .before .before .before .before .before .before .word2 in
+    slots-tested m (tasks .result) (slots .result) (tasks .ensures) (slots .ensures) (omega arith) (omega arith) (omega arith)
+    (sym (queues .before .before .before .is-blank .ensures) ∙ not-false _ (queues .before .before .if4 .left))
+    (sym (queues .before .are-queues-laid .ensures) ∙ not-false _ (queues .if5 .left))
+    _
+    (sym (c .before .before .is-blank2 .ensures) ∙ not-false _ (c .before .if6 .left))
+    (c .is-sequence-laid .ensures)
 
 pub is-layout-spec : {M : Type 1} → statement M
 is-layout-spec =
@@ -104,4 +121,6 @@ is-layout-spec =
     mul-is-blank-2
     add-is-blank-2
     is-blank-requires-2
-    returns-6)
+    returns-6
+    is-sequence-laid-requires
+    returns-7)

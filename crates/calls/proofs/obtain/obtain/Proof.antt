@@ -10,7 +10,7 @@ use Rattle.calls.proofs.Agreeing.{sized, tasks-few}
 use Rattle.calls.proofs.Doing.{does, refuses}
 use Rattle.calls.proofs.Entering.{slot-few, room}
 use Rattle.calls.proofs.Obtaining.{taking, took, obtain-refused, ready-task, place-few, taken-slot, obtain-unsatisfied, obtain-took}
-use Rattle.calls.proofs.Obtaining.{obtain-queued, queued-laid}
+use Rattle.calls.proofs.Obtaining.{obtain-queued, queued-laid, sequence-few}
 use Rattle.calls.proofs.obtain.obtain.Statement.{statement}
 use Rattle.calls.proofs.obtain.obtain.Tie as tie
 
@@ -126,12 +126,17 @@ ticks-of-requires c κs = search needs
 blocked-requires : tie.Need-blocked-requires
 blocked-requires c κs = search needs
 
-put-task-requires : tie.Need-put-task-requires
-put-task-requires c κs =
+begin-wait-requires : tie.Need-begin-wait-requires
+begin-wait-requires c κs =
     let put = c .before .before .before .before .before .before .before .before in
     let k = taking-of put in
-    let s = start (entered k) in
-    (omega (arith, sized (s .pre) .long, put .put-slot .kept), who k .first, omega (arith, who k .last, tasks-few _ (s .pre .agrees)))
+    let s = start (entered k) in (
+      omega (arith, sized (s .pre) .long, put .put-slot .kept),
+      who k .first,
+      omega (arith, who k .last, tasks-few _ (s .pre .agrees)),
+      sequence-few (modelOf (s .args .m .now)) (entered k .enter .result .slot) (s .args .caller) (s .args .wait) (s .pre .agrees)
+          (λ i. omega (arith, c .before .before .before .before .before .before .slice-known2 .given i)) (stored put),
+    )
 
 same-length-4 : tie.Need-same-length-4
 same-length-4 c = search needs
@@ -151,7 +156,7 @@ returns-4 c =
     (queued-laid (modelOf (s .args .m .now)) (e .enter .result .slot) (s .args .caller) (s .args .id) (s .args .wait) (s .pre .agrees) (who k)
     (λ i. omega (arith, c .before .before .before .before .before .before .before .before .before .slice-known2 .given i)) (stored put)
     _ _ (block .before .before .load-task .ensures) (block .blocked .ensures (s .args .wait) (block .before .ticks-of .ensures))
-    (c .before .before .put-task .ensures))
+    (c .before .before .begin-wait .ensures))
 
 pub obtain-spec : {M : Type 1} → statement M
 obtain-spec =
@@ -172,6 +177,6 @@ obtain-spec =
     load-task-requires
     ticks-of-requires
     blocked-requires
-    put-task-requires
+    begin-wait-requires
     same-length-4
     returns-4)

@@ -12,7 +12,7 @@ use Rattle.tables.specs.Layout.{laid, modelOf}
 use Rattle.calls.proofs.Agreeing.{sized, tasks-few}
 use Rattle.calls.proofs.Doing.{does, refuses}
 use Rattle.calls.proofs.Entering.{slot-few, count-within}
-use Rattle.calls.proofs.Releasing.{returned, release-refused, release-unsatisfied, release-returned, release-handed, given-slot, woken-tasks}
+use Rattle.calls.proofs.Releasing.{returned, release-refused, release-unsatisfied, release-returned, release-handed, given-slot, woken-tasks, woken-room}
 use Rattle.calls.proofs.release.release.Statement.{statement}
 use Rattle.calls.proofs.release.release.Tie as tie
 
@@ -120,6 +120,7 @@ returns-4 c =
     (release-handed caller is (e .enter .ensures) z (g .give .ensures) (put .before .before .before .if2 .left) (c .before .before .before .before .if3 .left))
     _ refl refl
     (c .before .before .wake .ensures after (stored put) (woken-tasks caller is (e .enter .ensures) z (g .give .ensures) (start e .pre .agrees))
+    (woken-room caller is (e .enter .ensures) z (g .give .ensures) (start e .pre .agrees) (c .before .before .before .before .if3 .left))
     ∙ ap (λ (q : ℕ). laid (wake after q 0)) (given-slot caller is (e .enter .ensures) z (g .give .ensures) .woken))
 
 pub release-spec : {M : Type 1} → statement M
