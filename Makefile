@@ -25,7 +25,7 @@ run: build/mast-session
 ifdef SESSION
 	@python3 tools/show_session.py build/mast-session "$(SESSION)"
 else
-	@python3 tools/show_session.py build/mast-session examples/worked.session examples/day.session
+	@python3 tools/show_session.py build/mast-session examples/worked.session examples/day.session examples/equals.session
 endif
 
 # The program that runs guarded sections from a text, from the proved crate mast_sections.
@@ -54,8 +54,7 @@ endif
 # An object for the calls and one for mast_run, so that a program links what it uses.
 build/libmastclover.a: FORCE
 	@mkdir -p build/members
-	@python3 tools/prove.py build/lib.log rt staticlib capi
-	@python3 tools/prove.py build/lib_run.log rt staticlib capi_run
+	@bash tools/archive capi capi_run
 	@cd build/members && rm -f * && ar x ../../target/staticlib/libcapi.a && ar x ../../target/staticlib/libcapi_run.a && ar rcsD all.a *.o
 	@cmp -s build/members/all.a $@ || cp build/members/all.a $@
 
@@ -87,7 +86,7 @@ records: build/libmastrecords.a
 
 build/libmastrecords.a: FORCE
 	@mkdir -p build
-	@rt staticlib records >build/records.log 2>&1 || { cat build/records.log; exit 1; }
+	@bash tools/archive records
 	@cmp -s target/staticlib/librecords.a $@ || cp target/staticlib/librecords.a $@
 
 bench: compare build/mast-session

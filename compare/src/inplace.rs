@@ -37,13 +37,13 @@ fn set(words: &mut Words, at: usize, number: u32) {
     words[at] = number.to_be_bytes();
 }
 
-/// The most urgent ready task, the lowest number among equals, or 0.
+/// The most urgent ready task, among equals the first in the sequence, or 0.
 pub fn next_task(words: &Words) -> u32 {
     let (mut best, mut chosen) = (u32::MAX, 0);
-    for number in 1..=get(words, TASKS) {
-        let at = task_at(number);
-        let priority = get(words, at + PRIORITY_OF);
-        if get(words, at + ANSWER) != WAITING && priority < best {
+    for place in 0..get(words, READY) as usize {
+        let number = get(words, SEQUENCE + place);
+        let priority = get(words, task_at(number) + PRIORITY_OF);
+        if priority < best {
             (best, chosen) = (priority, number);
         }
     }
@@ -82,11 +82,26 @@ fn enter(words: &Words, caller: u32, id: u32, interrupt_may: bool) -> Result<usi
     }
 }
 
+/// Makes a task ready, at the end of the sequence.
 fn wake(words: &mut Words, number: u32, ending: u32) {
     let at = task_at(number);
     set(words, at + ANSWER, ending);
     set(words, at + WAITS_ON, 0);
     set(words, at + TICKS, 0);
+    let ready = get(words, READY);
+    set(words, SEQUENCE + ready as usize, number);
+    set(words, READY, ready + 1);
+}
+
+/// Takes a task out of the sequence and closes the gap.
+fn leave_sequence(words: &mut Words, number: u32) {
+    let length = get(words, READY) as usize;
+    let stands = |&place: &usize| get(words, SEQUENCE + place) == number;
+    if let Some(place) = (0..length).find(stands) {
+        words.copy_within(SEQUENCE + place + 1..SEQUENCE + length, SEQUENCE + place);
+        set(words, SEQUENCE + length - 1, 0);
+        set(words, READY, length as u32 - 1);
+    }
 }
 
 fn wake_queue(words: &mut Words, at: usize, ending: u32) {
@@ -137,7 +152,9 @@ pub fn start(words: &mut Words, slots: u32, priorities: &[u32]) -> Answer {
     set(words, SLOTS, slots);
     for (number, &priority) in (1..).zip(priorities) {
         set(words, task_at(number) + PRIORITY_OF, priority);
+        set(words, SEQUENCE + number as usize - 1, number);
     }
+    set(words, READY, count as u32);
     answer(words, SUCCESSFUL, 0)
 }
 
@@ -229,6 +246,7 @@ pub fn obtain(words: &mut Words, caller: u32, id: u32, options: u32, timeout: u3
         return answer(words, UNSATISFIED, 0);
     }
     join_queue(words, at, caller);
+    leave_sequence(words, caller);
     set(words, task_at(caller) + ANSWER, WAITING);
     set(words, task_at(caller) + WAITS_ON, id);
     set(words, task_at(caller) + TICKS, timeout);

@@ -4,8 +4,8 @@ use crate::call::{Answer, Call, Manager};
 use crate::model::{split_attributes, Machine, Semaphore, Slot, State, Task};
 use crate::status::*;
 
-/// Words of the tables: N, S, 32 tasks of four, 64 slots of forty.
-pub const WORDS: usize = FIRST_SLOT + MOST_SLOTS * SLOT_WORDS;
+/// Words of the tables: N, S, 32 tasks of four, 64 slots of forty, the ready sequence's length and its 32 places.
+pub const WORDS: usize = SEQUENCE + MOST_TASKS;
 /// Bytes that the caller lends.
 pub const LENGTH: usize = WORDS * 4;
 
@@ -17,6 +17,9 @@ pub const FIRST_TASK: usize = 2;
 pub const TASK_WORDS: usize = 4;
 pub const FIRST_SLOT: usize = FIRST_TASK + MOST_TASKS * TASK_WORDS;
 pub const SLOT_WORDS: usize = QUEUE + MOST_TASKS;
+/// How many tasks are ready, and the first of the places of their sequence.
+pub const READY: usize = FIRST_SLOT + MOST_SLOTS * SLOT_WORDS;
+pub const SEQUENCE: usize = READY + 1;
 
 // Words of a task.
 pub const PRIORITY_OF: usize = 0;
@@ -68,6 +71,8 @@ pub fn word_name(index: usize) -> String {
             let place = index - FIRST_TASK;
             format!("task {} {}", place / TASK_WORDS + 1, TASK_FIELDS[place % TASK_WORDS])
         }
+        READY => "ready sequence length".into(),
+        _ if index >= SEQUENCE => format!("ready sequence place {}", index - SEQUENCE + 1),
         _ => {
             let place = index - FIRST_SLOT;
             let (slot, field) = (place / SLOT_WORDS + 1, place % SLOT_WORDS);
@@ -109,6 +114,14 @@ pub fn write_into(machine: &Machine, bytes: &mut [u8]) {
             set_words(bytes, at + QUEUE, &live.queue);
         }
     }
+    set_sequence(bytes, &machine.ready);
+}
+
+/// Writes the ready sequence, and zeros behind its length.
+pub fn set_sequence(bytes: &mut [u8], sequence: &[u32]) {
+    bytes[READY * 4..].fill(0);
+    set_word(bytes, READY, sequence.len() as u32);
+    set_words(bytes, SEQUENCE, sequence);
 }
 
 fn set_words(bytes: &mut [u8], at: usize, numbers: &[u32]) {
@@ -123,8 +136,21 @@ pub fn read(bytes: &[u8]) -> Option<Machine> {
         return None;
     }
     let machine = read_shape(bytes)?;
-    // Whatever lies beyond N, S or a queue's length is missing from the machine, so it has to be 0.
+    // Whatever lies beyond N, S or the length of a queue or the sequence is missing from the machine, so it
+    // has to be 0.
     (machine.agrees() && write(&machine) == bytes).then_some(machine)
+}
+
+/// The machine of bytes whose ready sequence is put in number order, or nothing if they do not agree even so.
+pub fn read_with_sequence_mended(bytes: &[u8]) -> Option<Machine> {
+    if bytes.len() != LENGTH || word(bytes, TASKS) as usize > MOST_TASKS {
+        return None;
+    }
+    let waits = |number: u32| word(bytes, task_at(number) + ANSWER) == WAITING;
+    let ready: Vec<u32> = (1..=word(bytes, TASKS)).filter(|&number| !waits(number)).collect();
+    let mut mended = bytes.to_vec();
+    set_sequence(&mut mended, &ready);
+    read(&mended)
 }
 
 fn read_shape(bytes: &[u8]) -> Option<Machine> {
@@ -134,7 +160,12 @@ fn read_shape(bytes: &[u8]) -> Option<Machine> {
     }
     let tasks = (1..=tasks as u32).map(|number| read_task(bytes, task_at(number))).collect();
     let slots: Option<Vec<Slot>> = (0..slots).map(|index| read_slot(bytes, slot_at(index))).collect();
-    Some(Machine { tasks, slots: slots? })
+    let ready = word(bytes, READY) as usize;
+    if ready > MOST_TASKS {
+        return None;
+    }
+    let ready = (0..ready).map(|place| word(bytes, SEQUENCE + place)).collect();
+    Some(Machine { tasks, slots: slots?, ready })
 }
 
 fn read_task(bytes: &[u8], at: usize) -> Task {

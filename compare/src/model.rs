@@ -1,4 +1,4 @@
-//! The semaphore manager of document 01 over structs of its own.
+//! The semaphore manager of docs/RULES.md over structs of its own.
 
 mod agree;
 
@@ -10,6 +10,8 @@ use crate::status::*;
 pub struct Machine {
     pub tasks: Vec<Task>,
     pub slots: Vec<Slot>,
+    /// The numbers of the ready tasks, the one that has been ready longest first.
+    pub ready: Vec<u32>,
 }
 
 #[derive(Clone, Debug, PartialEq, Eq)]
@@ -133,12 +135,15 @@ impl Machine {
         Answer::new(status, value, self.next_task())
     }
 
-    /// The most urgent ready task, the lowest number among equals, or 0.
+    /// The most urgent ready task, among equals the one that has been ready longest, or 0.
     pub fn next_task(&self) -> u32 {
-        let ready = |task: &&(u32, &Task)| matches!(task.1.state, State::Ready { .. });
-        let numbered: Vec<(u32, &Task)> = (1..).zip(&self.tasks).collect();
-        let chosen = numbered.iter().filter(ready).min_by_key(|(number, task)| (task.priority, *number));
-        chosen.map_or(0, |(number, _)| *number)
+        // Of several least the first is taken.
+        self.ready.iter().copied().min_by_key(|&task| self.priority(task)).unwrap_or(0)
+    }
+
+    /// The priority of a task, by its number.
+    pub fn priority(&self, task: u32) -> u32 {
+        self.tasks[task as usize - 1].priority
     }
 
     pub fn is_waiting(&self, task: u32) -> bool {
@@ -193,6 +198,7 @@ impl Machine {
         let ready = State::Ready { answer: SUCCESSFUL };
         self.tasks = priorities.iter().map(|&priority| Task { priority, state: ready }).collect();
         self.slots = vec![Slot::default(); slots as usize];
+        self.ready = (1..=priorities.len() as u32).collect();
         DONE
     }
 
@@ -257,6 +263,7 @@ impl Machine {
         }
         self.join_queue(index, caller);
         self.tasks[caller as usize - 1].state = State::Waiting { id, ticks: timeout };
+        self.ready.retain(|&task| task != caller);
         Ok(Outcome::Waits)
     }
 
@@ -334,9 +341,11 @@ impl Machine {
         }))
     }
 
+    /// Ends the waits of these tasks; they join the end of the ready ones in this order.
     fn wake_all(&mut self, woken: &[u32], answer: u32) {
         for &task in woken {
             self.tasks[task as usize - 1].state = State::Ready { answer };
         }
+        self.ready.extend(woken);
     }
 }

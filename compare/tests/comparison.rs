@@ -4,6 +4,7 @@ use compare::call::{Answer, Call, Manager};
 use compare::fuzz::comparison::{Comparison, Difference};
 use compare::fuzz::{damage, sequence};
 use compare::inplace::agreement::Tested;
+use compare::layout::{set_sequence, task_at, word, READY, SEQUENCE};
 
 fn random_parts(comparison: &mut Comparison, sequences: u64) -> Result<(), Box<Difference>> {
     for seed in 0..sequences {
@@ -68,4 +69,52 @@ fn a_wrong_byte_is_found_and_named() {
     });
     assert_eq!(found.expected, found.found);
     assert!(found.memory.is_some_and(|said| said.starts_with("word 134, slot 1 count: ")));
+}
+
+/// The sequence of ready tasks, as it is now.
+fn sequence(tables: &[u8]) -> Vec<u32> {
+    (0..word(tables, READY) as usize).map(|place| word(tables, SEQUENCE + place)).collect()
+}
+
+#[test]
+fn the_lowest_number_among_equals_is_found() {
+    let found = is_found(|_, tables, answer| {
+        let priority = |number: u32| word(tables, task_at(number));
+        let ready = sequence(tables);
+        let urgent = ready.iter().copied().min_by_key(|&number| (priority(number), number));
+        match answer.status {
+            25 => answer,
+            _ => Answer { next: urgent.unwrap_or(0), ..answer },
+        }
+    });
+    assert!(found.found.next < found.expected.next && found.memory.is_none());
+}
+
+#[test]
+fn a_poll_that_moves_its_caller_is_found() {
+    let found = is_found(|call, tables, answer| {
+        if let (Call::Obtain { caller, .. }, 0 | 13) = (call, answer.status) {
+            let mut ready = sequence(tables);
+            ready.retain(|number| number != caller);
+            ready.push(*caller);
+            set_sequence(tables, &ready);
+        }
+        answer
+    });
+    assert!(found.memory.is_some_and(|said| said.contains("ready sequence place ")));
+}
+
+#[test]
+fn a_wake_at_the_front_is_found() {
+    let mut before = Vec::new();
+    let found = is_found(|call, tables, answer| {
+        let mut ready = sequence(tables);
+        if matches!(call, Call::Release { .. }) && answer.status == 0 && ready.len() > before.len() {
+            ready.rotate_right(1);
+            set_sequence(tables, &ready);
+        }
+        before = sequence(tables);
+        answer
+    });
+    assert!(matches!(found.call, Call::Release { .. }));
 }

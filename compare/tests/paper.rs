@@ -1,8 +1,10 @@
-//! Document 01's cases and the agreement of its tables, on this project's own code.
+//! The rules' cases and the agreement of the tables, on this project's own code.
 
 use compare::call::{Answer, Call, Manager};
 use compare::inplace::agreement::{agrees, Tested};
-use compare::layout::{self, read, set_word, slot_at, task_at, word, Model, LENGTH, WORDS};
+use compare::layout::{
+    self, read, set_word, slot_at, task_at, word, Model, LENGTH, READY, SEQUENCE, WORDS,
+};
 
 #[test]
 fn paper_cases_hold_for_the_model() {
@@ -45,14 +47,83 @@ fn edited(edits: &[(usize, u32)], wanted: bool) {
 
 #[test]
 fn layout_has_its_length_and_byte_order() {
-    assert_eq!((WORDS, LENGTH), (2690, 10760));
+    assert_eq!((READY, SEQUENCE, WORDS, LENGTH), (2690, 2691, 2723, 10892));
     let tables = small_tables();
     assert_eq!(&tables[..8], &[0, 0, 0, 3, 0, 0, 0, 3]);
-    assert_eq!((task_at(1), slot_at(0), slot_at(63) + 40), (2, 130, WORDS));
+    assert_eq!((task_at(1), slot_at(0), slot_at(63) + 40), (2, 130, READY));
     let first: Vec<u32> = (slot_at(0)..slot_at(0) + 11).map(|at| word(&tables, at)).collect();
     assert_eq!(first, [1, 1, 1, 20, 0, 1, 1, 2, 2, 3, 0]);
     let waits: Vec<u32> = (task_at(2)..task_at(3)).map(|at| word(&tables, at)).collect();
     assert_eq!(waits, [6, 100, 65537, 5]);
+    let mut equals = equal_tables();
+    assert_eq!(sequence(&equals), [4, 1, 4, 2, 3, 0, 0]);
+    Model.call(&mut equals, &Call::Obtain { caller: 4, id: 65537, options: 0, timeout: 0 });
+    assert_eq!(sequence(&equals), [3, 1, 2, 3, 0, 0, 0]);
+}
+
+/// Five equals, of whom 1, 4, 2 and 3 are ready in this order.
+fn equal_tables() -> Vec<u8> {
+    let mut tables = vec![0; LENGTH];
+    let obtain = |caller| Call::Obtain { caller, id: 65537, options: 0, timeout: 5 };
+    for call in [
+        Call::Start { slots: 1, priorities: vec![7; 5] },
+        Call::Create { caller: 1, name: 1, count: 0, attributes: 0 },
+        obtain(2),
+        obtain(3),
+        obtain(5),
+        Call::Release { caller: 0, id: 65537 },
+        Call::Release { caller: 0, id: 65537 },
+    ] {
+        Model.call(&mut tables, &call);
+    }
+    tables
+}
+
+/// The sequence's length and its first places.
+fn sequence(tables: &[u8]) -> Vec<u32> {
+    (READY..READY + 7).map(|at| word(tables, at)).collect()
+}
+
+#[test]
+fn sequence_rules() {
+    let altered = |words: [u32; 7], wanted: bool| {
+        let mut tables = equal_tables();
+        (READY..).zip(words).for_each(|(at, number)| set_word(&mut tables, at, number));
+        assert_eq!(read(&tables).is_some(), wanted, "the model on {words:?}");
+        assert_eq!(agrees(&tables), wanted, "in place on {words:?}");
+    };
+    // Any order will do.
+    altered([4, 1, 2, 3, 4, 0, 0], true);
+    altered([4, 4, 3, 2, 1, 0, 0], true);
+    // A waiting task, one twice, one missing, none, one above N.
+    altered([5, 1, 4, 2, 3, 5, 0], false);
+    altered([4, 1, 5, 2, 3, 0, 0], false);
+    altered([5, 1, 4, 2, 3, 1, 0], false);
+    altered([4, 1, 4, 4, 3, 0, 0], false);
+    altered([3, 1, 4, 2, 0, 0, 0], false);
+    altered([0, 0, 0, 0, 0, 0, 0], false);
+    altered([5, 1, 4, 2, 3, 0, 0], false);
+    altered([5, 1, 0, 4, 2, 3, 0], false);
+    altered([5, 1, 4, 2, 3, 6, 0], false);
+    altered([4, 1, 33, 2, 3, 0, 0], false);
+    altered([4, 1, 36, 2, 3, 0, 0], false);
+    altered([4, 1, u32::MAX, 2, 3, 0, 0], false);
+    // The length, and what lies behind it.
+    altered([3, 1, 4, 2, 3, 0, 0], false);
+    altered([4, 1, 4, 2, 3, 0, 1], false);
+    altered([4, 1, 4, 2, 3, 5, 0], false);
+    altered([33, 1, 4, 2, 3, 0, 0], false);
+    altered([u32::MAX, 1, 4, 2, 3, 0, 0], false);
+    let mut last = equal_tables();
+    set_word(&mut last, WORDS - 1, 1);
+    assert_eq!((read(&last).is_some(), agrees(&last)), (false, false), "the last word");
+    // Before start there is no sequence.
+    for at in [READY, SEQUENCE, WORDS - 1] {
+        let mut tables = vec![0; LENGTH];
+        assert!(agrees(&tables));
+        set_word(&mut tables, at, 1);
+        assert_eq!((read(&tables).is_some(), agrees(&tables)), (false, false), "word {at}");
+    }
 }
 
 #[test]
@@ -69,11 +140,16 @@ fn task_rules() {
     edited(&[(task_at(2) + 3, u32::MAX)], true);
     edited(&[(task_at(4), 1)], false);
     edited(&[(0, 4)], false);
-    edited(&[(0, 4), (task_at(4), 1)], true);
-    edited(&[(0, 4), (task_at(4), 1), (task_at(4) + 1, 13)], true);
-    edited(&[(0, 4), (task_at(4), 1), (task_at(4) + 1, 12)], false);
-    edited(&[(0, 4), (task_at(4), 1), (task_at(4) + 3, 1)], false);
-    edited(&[(0, 4), (task_at(4), 1), (task_at(4) + 1, 100)], false);
+    // A fourth task is ready, and the only one.
+    let fourth = [(0, 4), (task_at(4), 1), (READY, 1), (SEQUENCE, 4)];
+    edited(&fourth, true);
+    edited(&fourth[..2], false);
+    edited(&fourth[2..], false);
+    let with = |at: usize, number: u32| [&fourth[..], &[(at, number)]].concat();
+    edited(&with(task_at(4) + 1, 13), true);
+    edited(&with(task_at(4) + 1, 12), false);
+    edited(&with(task_at(4) + 3, 1), false);
+    edited(&with(task_at(4) + 1, 100), false);
 }
 
 #[test]

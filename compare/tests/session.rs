@@ -1,5 +1,8 @@
 //! The session program's rules, on this project's own parser and printer.
 
+use std::fs;
+use std::path::PathBuf;
+
 use compare::fuzz::rng::Rng;
 use compare::model::Machine;
 use compare::session::lines::{line_of, random_session};
@@ -19,6 +22,28 @@ const WORKED_ANSWERS: &str = "0 0 1\n0 65537 1\n0 0 1\n100 0 2\n0 0 2\n0 0 1\n12
 #[test]
 fn worked_session_of_the_paper() {
     session(WORKED, WORKED_ANSWERS);
+}
+
+#[test]
+fn equals_of_the_paper() {
+    let input = b"start 1 10 10\ncreate 1 77 0 0\nobtain 1 65537 0 0\nrelease 2 65537\n";
+    session(input, "0 0 1\n0 65537 1\n100 0 2\n0 0 2\n");
+}
+
+/// Each session of examples/ has the answers beside it, of the in-place variant and of the model.
+#[test]
+fn examples_have_their_answers() {
+    let examples = concat!(env!("CARGO_MANIFEST_DIR"), "/../examples");
+    let paths = fs::read_dir(examples).unwrap().map(|entry| entry.unwrap().path());
+    let is_session = |path: &PathBuf| path.extension().is_some_and(|end| end == "session");
+    let sessions: Vec<PathBuf> = paths.filter(is_session).collect();
+    assert!(sessions.len() >= 4, "the examples are found");
+    for path in sessions {
+        let input = fs::read(&path).unwrap();
+        let wanted = fs::read(path.with_extension("stdout")).unwrap();
+        assert_eq!(run_session(&input), wanted, "in place on {}", path.display());
+        assert_eq!(session_of_the_model(&input), wanted, "the model on {}", path.display());
+    }
 }
 
 #[test]

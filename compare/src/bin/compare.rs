@@ -68,7 +68,7 @@ fn main() -> ExitCode {
         println!("{failure}");
         return ExitCode::FAILURE;
     }
-    println!("document 01's cases: as the paper says");
+    println!("the rules' cases: as docs/RULES.md says");
     let mut library = Library;
     let mut comparison = Comparison::new(&mut library);
     comparison.trace = settings.trace;

@@ -1,12 +1,13 @@
-//! A caller that keeps its own task records with the library's two functions over them, beside the
-//! independent manager: it is told which waits have ended and how, and chooses the next task itself.
+//! A caller that keeps its own task records and their sequence, with the library's two functions over them,
+//! beside the independent manager: it is told which waits have begun and ended, in order and how, and chooses
+//! the next task itself.
 
 use std::env;
 use std::process::ExitCode;
 
 use compare::fuzz::generate::Plan;
-use compare::model::{Machine, State, Task};
 use compare::fuzz::rng::Rng;
+use compare::model::{Machine, State, Task};
 use compare::status::WAITING;
 
 const USAGE: &str = "usage: compare_records [SEED]";
@@ -23,15 +24,23 @@ struct Record {
 }
 
 unsafe extern "C" {
-    fn mast_next_task(tasks: *const Record, count: usize) -> usize;
+    fn mast_next_task(tasks: *const Record, count: usize, ready: *const u32, ready_count: usize) -> u32;
     fn mast_wake_task(task: *mut Record, answer: u32);
 }
 
-// In both the pointer is that of a slice or a reference, which nobody else holds meanwhile.
+// In both each pointer is that of a slice or a reference, which nobody else holds meanwhile.
 
-fn next_task(tasks: &[Record]) -> usize {
-    let first = if tasks.is_empty() { std::ptr::null() } else { tasks.as_ptr() };
-    unsafe { mast_next_task(first, tasks.len()) }
+fn next_task(tasks: &[Record], ready: &[u32]) -> u32 {
+    unsafe { mast_next_task(first(tasks), tasks.len(), first(ready), ready.len()) }
+}
+
+/// C passes a null pointer for nothing, and so does this.
+fn first<T>(items: &[T]) -> *const T {
+    if items.is_empty() {
+        std::ptr::null()
+    } else {
+        items.as_ptr()
+    }
 }
 
 fn wake_task(task: &mut Record, answer: u32) {
@@ -46,13 +55,69 @@ fn record_of(task: &Task) -> Record {
     Record { priority: task.priority, answer, awaited, ticks }
 }
 
-/// One sequence of calls; gives back how many waits ended in it.
-fn sequence(seed: u64) -> Result<u64, String> {
+/// What a comparison has to have seen, each at least once.
+#[derive(Default)]
+struct Seen {
+    woken: u64,
+    /// The next task had an equal of a lower number in the sequence.
+    not_lowest: u64,
+    /// A sequence had a 0 in it, a number above the count, a number twice.
+    zeros: u64,
+    foreign: u64,
+    twice: u64,
+    /// The next task waits by its answer, which is not looked at.
+    waiting: u64,
+}
+
+impl Seen {
+    fn add(&mut self, tasks: &[Record], ready: &[u32], next: u32) {
+        let priority =
+            |number: u32| tasks.get((number as usize).wrapping_sub(1)).map(|task| task.priority);
+        let lower = |&number: &u32| number < next && priority(number) == priority(next);
+        self.not_lowest += u64::from(next != 0 && ready.iter().any(lower));
+        self.zeros += u64::from(ready.contains(&0));
+        self.foreign += u64::from(ready.iter().any(|&number| number as usize > tasks.len()));
+        let again = |(place, number): (usize, &u32)| ready[..place].contains(number);
+        self.twice += u64::from(ready.iter().enumerate().any(again));
+        let chosen = tasks.get((next as usize).wrapping_sub(1));
+        self.waiting += u64::from(chosen.is_some_and(|task| task.answer == WAITING));
+    }
+
+    fn all(&self) -> bool {
+        [self.woken, self.not_lowest, self.zeros, self.foreign, self.twice, self.waiting]
+            .iter()
+            .all(|&count| count > 0)
+    }
+}
+
+/// The caller's own sequence: who began to wait leaves it, who no longer waits joins its end.
+fn follow(own: &mut Vec<u32>, machine: &Machine) {
+    own.retain(|&number| !machine.is_waiting(number));
+    let joined: Vec<u32> =
+        machine.ready.iter().copied().filter(|number| !own.contains(number)).collect();
+    own.extend(joined);
+}
+
+/// The same sequence with numbers put in that change nothing: no task's, and those of tasks that come earlier.
+fn puffed(rng: &mut Rng, ready: &[u32], count: u32) -> Vec<u32> {
+    let mut puffed = Vec::new();
+    for place in 0..=ready.len() {
+        while rng.chance(15) {
+            let earlier = ready[..place].last().copied().unwrap_or(0);
+            puffed.push(rng.pick(&[0, count + 1, count + 32, u32::MAX, earlier]));
+        }
+        puffed.extend(ready.get(place));
+    }
+    puffed
+}
+
+/// One sequence of calls.
+fn sequence(seed: u64, seen: &mut Seen) -> Result<(), String> {
     let mut rng = Rng::new(seed);
     let plan = Plan::draw(&mut rng);
     let mut machine = Machine::default();
     let mut own: Vec<Record> = Vec::new();
-    let mut woken = 0;
+    let mut ready: Vec<u32> = Vec::new();
     for step in 0..plan.steps {
         let call = plan.draw_call(&mut rng, &machine);
         let answer = machine.call(&call);
@@ -61,7 +126,7 @@ fn sequence(seed: u64) -> Result<u64, String> {
         for (index, now) in wanted.iter().enumerate() {
             if own[index].answer == WAITING && now.answer != WAITING {
                 wake_task(&mut own[index], now.answer);
-                woken += 1;
+                seen.woken += 1;
             } else {
                 own[index] = *now;
             }
@@ -69,15 +134,22 @@ fn sequence(seed: u64) -> Result<u64, String> {
         if own != wanted {
             return Err(format!("seed {seed}, step {step}, {call:?}: {own:?} is not {wanted:?}"));
         }
-        let next = next_task(&own);
-        if next != answer.next as usize {
-            return Err(format!(
-                "seed {seed}, step {step}: next {next} of {own:?} is not {}",
-                answer.next
-            ));
+        follow(&mut ready, &machine);
+        if ready != machine.ready {
+            return Err(format!("seed {seed}, step {step}: {ready:?} is not {:?}", machine.ready));
+        }
+        for given in [ready.clone(), puffed(&mut rng, &ready, own.len() as u32)] {
+            let next = next_task(&own, &given);
+            if next != answer.next {
+                let wanted = answer.next;
+                return Err(format!(
+                    "seed {seed}, step {step}: next {next} of {own:?} in sequence {given:?} is not {wanted}"
+                ));
+            }
+            seen.add(&own, &given, next);
         }
     }
-    Ok(woken)
+    Ok(())
 }
 
 /// A number that matters: of a few, at an end, or any.
@@ -89,8 +161,24 @@ fn number(rng: &mut Rng, few: &[u32]) -> u32 {
     }
 }
 
-/// One list of any records, of any length.
-fn list(seed: u64) -> Result<(), String> {
+/// A sequence of ready tasks of the list, some more than once, some not at all, with numbers that are no task's.
+fn draw_ready(rng: &mut Rng, tasks: &[Record]) -> Vec<u32> {
+    let count = tasks.len() as u32;
+    // Now and then those too that wait by their answer: the sequence alone counts.
+    let any = rng.chance(20);
+    let named = |(number, task): (u32, &Record)| (any || task.answer != WAITING).then_some(number);
+    let ready: Vec<u32> = (1..).zip(tasks).filter_map(named).collect();
+    let foreign = rng.pick(&[0, 10, 50]);
+    let length = rng.below(2 * ready.len() + 3);
+    let draw = |rng: &mut Rng| match ready.is_empty() || rng.chance(foreign) {
+        true => rng.pick(&[0, 0, count + 1, count + 1, count + 32, 1 << 31, u32::MAX]),
+        false => rng.pick(&ready),
+    };
+    (0..length).map(|_| draw(rng)).collect()
+}
+
+/// One list of any records, of any length, with any sequence of its ready ones.
+fn list(seed: u64, seen: &mut Seen) -> Result<(), String> {
     let mut rng = Rng::new(seed);
     let most = rng.pick(&[1, 3, 33, 200]);
     let draw = |rng: &mut Rng| Record {
@@ -100,13 +188,20 @@ fn list(seed: u64) -> Result<(), String> {
         ticks: number(rng, &[0, 1]),
     };
     let mut tasks: Vec<Record> = (0..rng.below(most)).map(|_| draw(&mut rng)).collect();
-    let ready = |(_, task): &(usize, &Record)| task.answer != WAITING && task.priority < 256;
-    let chosen = (1..).zip(&tasks).filter(ready).min_by_key(|(number, task)| (task.priority, *number));
-    let wanted = chosen.map_or(0, |(number, _)| number);
-    let next = next_task(&tasks);
+    let ready = draw_ready(&mut rng, &tasks);
+    let priority = |number: u32| tasks.get((number as usize).checked_sub(1)?).map(|task| task.priority);
+    let candidates = ready.iter().filter_map(|&number| Some((priority(number)?, number)));
+    // Of several least the first is taken.
+    let chosen =
+        candidates.filter(|(priority, _)| *priority < 256).min_by_key(|(priority, _)| *priority);
+    let wanted = chosen.map_or(0, |(_, number)| number);
+    let next = next_task(&tasks, &ready);
     if next != wanted {
-        return Err(format!("seed {seed}: next {next} of {tasks:?} is not {wanted}"));
+        return Err(format!(
+            "seed {seed}: next {next} of {tasks:?} in sequence {ready:?} is not {wanted}"
+        ));
     }
+    seen.add(&tasks, &ready, next);
     if !tasks.is_empty() {
         let index = rng.below(tasks.len());
         let answer = number(&mut rng, &[0, 6, 7, 13]);
@@ -120,11 +215,15 @@ fn list(seed: u64) -> Result<(), String> {
     Ok(())
 }
 
-fn run(seed: u64) -> Result<u64, String> {
+fn run(seed: u64) -> Result<Seen, String> {
+    let mut seen = Seen::default();
     for each in 0..LISTS {
-        list(seed.wrapping_add(each))?;
+        list(seed.wrapping_add(each), &mut seen)?;
     }
-    (0..SEQUENCES).map(|each| sequence(seed.wrapping_add(each))).sum()
+    for each in 0..SEQUENCES {
+        sequence(seed.wrapping_add(each), &mut seen)?;
+    }
+    Ok(seen)
 }
 
 fn main() -> ExitCode {
@@ -133,10 +232,18 @@ fn main() -> ExitCode {
         return ExitCode::from(2);
     };
     match run(seed) {
-        Ok(0) => println!("no wait ended: nothing was compared"),
-        Ok(woken) => {
+        Ok(seen) => {
+            let Seen { woken, not_lowest, zeros, foreign, twice, waiting } = seen;
             println!("{LISTS} lists and {SEQUENCES} sequences with {woken} waits ended, no difference");
-            return ExitCode::SUCCESS;
+            println!("  {not_lowest:>10} next is not the lowest of its equals");
+            println!("  {zeros:>10} a sequence with 0 in it");
+            println!("  {foreign:>10} a sequence with a number above the count");
+            println!("  {twice:>10} a sequence with a number twice");
+            println!("  {waiting:>10} next waits by its answer");
+            if seen.all() {
+                return ExitCode::SUCCESS;
+            }
+            println!("one of these has to be seen and was not");
         }
         Err(difference) => println!("{difference}"),
     }

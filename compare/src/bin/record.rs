@@ -24,7 +24,7 @@ fn said(difference: Box<Difference>) -> String {
     difference.to_string()
 }
 
-/// Document 01's cases, then random sequences with random damage after each, until there are enough calls.
+/// The rules' cases, then random sequences with random damage after each, until there are enough calls.
 fn record(path: &str, calls: u64, seed: u64) -> Result<String, String> {
     let file = File::create(path).map_err(|error| format!("{path}: {error}"))?;
     let mut recorder = Recorder::new(BufWriter::new(file));

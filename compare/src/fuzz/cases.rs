@@ -1,10 +1,10 @@
-//! The cases that document 01 names, run on any manager.
+//! The cases that the rules name, P1 to P15 among them, run on any manager.
 
 use crate::call::{Answer, Call, Manager};
 use crate::fuzz::lent::Lent;
 use crate::layout::{self, LENGTH};
 
-/// The tables of one case, and the first answer that was not the paper's.
+/// The tables of one case, and the first answer that was not the rules'.
 struct Case<'a> {
     subject: &'a mut dyn Manager,
     tables: Lent,
@@ -21,7 +21,7 @@ impl Case<'_> {
             return;
         }
         if found != wanted {
-            self.failed = Some(format!("{call:?}: the paper says {wanted:?}, got {found:?}"));
+            self.failed = Some(format!("{call:?}: the rules say {wanted:?}, got {found:?}"));
         } else if !self.tables.guards_hold() {
             self.failed = Some(format!("{call:?}: bytes outside the lent memory were written"));
         }
@@ -45,6 +45,15 @@ impl Case<'_> {
         self.expect(Call::Release { caller, id }, wanted[0], wanted[1], wanted[2]);
     }
 
+    /// A release by an interrupt, which is done.
+    fn interrupt(&mut self, id: u32, next: u32) {
+        self.release(0, id, [0, 0, next]);
+    }
+
+    fn tick(&mut self, next: u32) {
+        self.expect(Call::Tick, 0, 0, next);
+    }
+
     fn task(&mut self, task: u32, answer: u32, next: u32) {
         self.expect(Call::Task { task }, 0, answer, next);
     }
@@ -53,7 +62,7 @@ impl Case<'_> {
 /// A case's name and what runs it.
 type Named = (&'static str, fn(&mut Case));
 
-const CASES: [Named; 14] = [
+const CASES: [Named; 21] = [
     ("P1 to P11", worked_session),
     ("P12", |case| {
         case.start(1, &[1], 1);
@@ -69,6 +78,97 @@ const CASES: [Named; 14] = [
         case.start(1, &[1], 1);
         case.create(1, 5, 1, 16, [0, 65537, 1]);
         case.release(0, 65537, [23, 0, 1]);
+    }),
+    ("P15", |case| {
+        case.start(1, &[10, 10], 1);
+        case.create(1, 77, 0, 0, [0, 65537, 1]);
+        case.obtain(1, 65537, 0, [100, 0, 2]);
+        case.release(2, 65537, [0, 0, 2]);
+    }),
+    ("equals take turns", |case| {
+        case.start(1, &[5, 5, 5, 9], 1);
+        case.create(1, 9, 0, 0, [0, 65537, 1]);
+        for (waits, next) in [(1, 2), (2, 3), (3, 1), (1, 2)] {
+            case.obtain(waits, 65537, 0, [100, 0, next]);
+            case.interrupt(65537, next);
+        }
+        // 2, 3, 1 are ready in this order: two of them leave, and the last is next.
+        case.obtain(3, 65537, 0, [100, 0, 2]);
+        case.obtain(2, 65537, 0, [100, 0, 1]);
+        case.obtain(1, 65537, 0, [100, 0, 4]);
+        case.obtain(4, 65537, 0, [100, 0, 0]);
+        for next in [3, 3, 3, 3] {
+            case.interrupt(65537, next);
+        }
+    }),
+    ("a tick wakes equals by their numbers", |case| {
+        case.start(2, &[5, 5, 5, 5, 9], 1);
+        case.create(5, 9, 0, 0, [0, 65537, 1]);
+        case.create(5, 9, 0, 4, [0, 65538, 1]);
+        // Neither the queue of the first nor its slot decides.
+        case.obtain(4, 65537, 2, [100, 0, 1]);
+        case.obtain(3, 65537, 2, [100, 0, 1]);
+        case.obtain(1, 65537, 2, [100, 0, 2]);
+        case.obtain(2, 65538, 2, [100, 0, 5]);
+        case.tick(5);
+        case.tick(1);
+        for (waits, next) in [(1, 2), (2, 3), (3, 4), (4, 5)] {
+            case.obtain(waits, 65537, 0, [100, 0, next]);
+        }
+    }),
+    ("ticks wake one after the other", |case| {
+        case.start(1, &[5, 5, 9], 1);
+        case.create(1, 9, 0, 0, [0, 65537, 1]);
+        case.obtain(2, 65537, 1, [100, 0, 1]);
+        case.obtain(1, 65537, 2, [100, 0, 3]);
+        case.tick(2);
+        case.tick(2);
+    }),
+    ("a flush wakes equals by their queue", |case| {
+        case.start(1, &[5, 5, 5, 9], 1);
+        case.create(4, 9, 0, 4, [0, 65537, 1]);
+        for (waits, next) in [(3, 1), (1, 2), (2, 4)] {
+            case.obtain(waits, 65537, 0, [100, 0, next]);
+        }
+        case.expect(Call::Flush { caller: 4, id: 65537 }, 0, 0, 3);
+        for (waits, next) in [(3, 1), (1, 2), (2, 4)] {
+            case.obtain(waits, 65537, 0, [100, 0, next]);
+        }
+    }),
+    ("a delete wakes equals by their queue", |case| {
+        case.start(2, &[5, 5, 5, 9], 1);
+        case.create(4, 9, 0, 0, [0, 65537, 1]);
+        case.create(4, 9, 0, 0, [0, 65538, 1]);
+        for (waits, next) in [(2, 1), (3, 1), (1, 4)] {
+            case.obtain(waits, 65537, 0, [100, 0, next]);
+        }
+        case.expect(Call::Delete { caller: 4, id: 65537 }, 0, 0, 2);
+        for (waits, next) in [(2, 3), (3, 1), (1, 4)] {
+            case.obtain(waits, 65538, 0, [100, 0, next]);
+        }
+    }),
+    ("what begins or ends no wait moves nobody", |case| {
+        case.start(3, &[5, 5, 9], 1);
+        case.create(1, 9, 0, 0, [0, 65537, 1]);
+        case.create(1, 8, 1, 16, [0, 65538, 1]);
+        case.obtain(1, 65537, 0, [100, 0, 2]);
+        case.interrupt(65537, 2);
+        // A poll that fails, one that does not, nesting, releases, counts, refusals.
+        case.expect(Call::Obtain { caller: 2, id: 65537, options: 1, timeout: 0 }, 13, 0, 2);
+        case.expect(Call::Obtain { caller: 2, id: 65538, options: 1, timeout: 0 }, 0, 0, 2);
+        case.obtain(2, 65538, 0, [0, 0, 2]);
+        case.release(2, 65538, [0, 0, 2]);
+        case.release(2, 65538, [0, 0, 2]);
+        case.release(2, 65537, [0, 0, 2]);
+        case.obtain(2, 65537, 0, [0, 0, 2]);
+        case.create(2, 7, 0, 0, [0, 65539, 2]);
+        case.expect(Call::Flush { caller: 2, id: 65539 }, 0, 0, 2);
+        case.expect(Call::Delete { caller: 2, id: 65539 }, 0, 0, 2);
+        case.expect(Call::Ident { name: 9 }, 0, 65537, 2);
+        case.release(2, 65539, [4, 0, 2]);
+        case.tick(2);
+        case.task(2, 0, 2);
+        case.obtain(2, 65537, 0, [100, 0, 1]);
     }),
     ("refusals of create", |case| {
         case.start(2, &[1], 1);
@@ -180,7 +280,7 @@ fn worked_session(case: &mut Case) {
     case.create(1, 78, 2, 0, [0, 131073, 1]);
 }
 
-/// Runs every case; how many calls were made, or the first answer that is not the paper's.
+/// Runs every case; how many calls were made, or the first answer that is not the rules'.
 pub fn run(subject: &mut dyn Manager) -> Result<u64, String> {
     let mut done = 0;
     for (name, run_case) in CASES {

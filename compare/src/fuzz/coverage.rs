@@ -1,8 +1,13 @@
 //! What has occurred in a comparison, and what has to.
 
+mod equals;
+
+pub use equals::next_passes_a_lower_equal;
+
 use std::collections::BTreeMap;
 
 use crate::call::{Answer, Call, KINDS};
+use crate::layout::{self, word, READY, SEQUENCE, WORDS};
 use crate::model::{Class, Machine, Order, Semaphore, State};
 use crate::status::*;
 
@@ -74,9 +79,15 @@ impl Coverage {
     }
 
     /// Counts a damaged table by whether it still agrees.
-    pub fn damaged(&mut self, agrees: bool) {
-        self.happened("damage left the tables in agreement", agrees);
-        self.happened("damage broke the agreement", !agrees);
+    pub fn damaged(&mut self, bytes: &[u8], machine: Option<&Machine>) {
+        self.happened("damage left the tables in agreement", machine.is_some());
+        self.happened("damage broke the agreement", machine.is_none());
+        if let Some(machine) = machine {
+            self.damaged_in_agreement(machine);
+        } else if let Some(machine) = layout::read_with_sequence_mended(bytes) {
+            let places: Vec<u32> = (SEQUENCE..WORDS).map(|at| word(bytes, at)).collect();
+            self.damaged_sequence(&machine, word(bytes, READY), &places);
+        }
     }
 
     /// Counts what a call did, given the machine before and after it.
@@ -103,6 +114,7 @@ impl Coverage {
             }
             Call::Start { .. } => {}
         }
+        self.saw_equals(before, call, answer, after);
     }
 
     fn saw_create(&mut self, before: &Machine, caller: u32, answer: Answer) {
@@ -197,7 +209,8 @@ impl Coverage {
         }
         let foreign = self.statuses.keys().filter(|(kind, status)| !STATUSES[*kind].contains(status));
         gaps.extend(foreign.map(|(kind, status)| format!("{} answered {status}", KINDS[*kind])));
-        let missing = HAPPENINGS.iter().filter(|name| !self.happenings.contains_key(*name));
+        let wanted = HAPPENINGS.into_iter().chain(equals::wanted());
+        let missing = wanted.filter(|name| !self.happenings.contains_key(name));
         gaps.extend(missing.map(|name| format!("never seen: {name}")));
         gaps
     }

@@ -21,7 +21,7 @@ fn probes(rng: &mut Rng, machine: &Machine) -> Vec<Call> {
 fn probe(comparison: &mut Comparison, place: Place, calls: &[Call], lent: &mut Lent) -> Compared {
     let bytes = lent.bytes().to_vec();
     let machine = layout::read(&bytes);
-    comparison.coverage.damaged(machine.is_some());
+    comparison.coverage.damaged(&bytes, machine.as_ref());
     for call in calls {
         let compared = match &machine {
             None => comparison.step(place, call, lent, Answer::DISAGREE, &bytes),
@@ -79,7 +79,8 @@ pub fn every_word(comparison: &mut Comparison) -> Compared {
             set_to_each(comparison, place, &calls, &mut lent, at, &values)?;
         }
     }
-    every_small_number(comparison)
+    every_small_number(comparison)?;
+    every_sequence(comparison)
 }
 
 /// Every small number in every word that small tables use, so that no wrong answer or attribute passes.
@@ -89,9 +90,34 @@ fn every_small_number(comparison: &mut Comparison) -> Compared {
     let mut lent = Lent::new(&layout::write(&machine), 0);
     let numbers: Vec<u32> = (0..=300).collect();
     let tasks = 0..task_at(machine.tasks.len() as u32 + 1);
-    for at in tasks.chain(slot_at(0)..slot_at(machine.slots.len())) {
+    let sequence = READY..SEQUENCE + machine.tasks.len() + 1;
+    for at in tasks.chain(slot_at(0)..slot_at(machine.slots.len())).chain(sequence) {
         let place = Place { part: "every small number", seed: 0, step: at as u64 };
         set_to_each(comparison, place, &calls, &mut lent, at, &numbers)?;
+    }
+    Ok(())
+}
+
+/// Every length up to 5 with every number up to N + 1 in the first four places, of three equals of whom one waits.
+fn every_sequence(comparison: &mut Comparison) -> Compared {
+    let machine = made_by(&[
+        Call::Start { slots: 1, priorities: vec![2; 3] },
+        Call::Create { caller: 1, name: 9, count: 0, attributes: 4 },
+        wait(2, 65537, 1),
+    ]);
+    let calls = probes(&mut Rng::new(0), &machine);
+    let mut lent = Lent::new(&layout::write(&machine), 0);
+    for step in 0..6 * 5u32.pow(4) {
+        let (length, mut rest) = (step / 5u32.pow(4), step % 5u32.pow(4));
+        set_word(lent.bytes_mut(), READY, length);
+        for place in 0..4 {
+            set_word(lent.bytes_mut(), SEQUENCE + place, rest % 5);
+            rest /= 5;
+        }
+        let place = Place { part: "every sequence", seed: 0, step: u64::from(step) };
+        let shown: Vec<u32> = (READY..SEQUENCE + 4).map(|at| word(lent.bytes(), at)).collect();
+        let damage = || format!("words of the ready sequence {shown:?}");
+        probe_damaged(comparison, place, &calls, &mut lent, damage)?;
     }
     Ok(())
 }
@@ -125,13 +151,14 @@ fn values(was: u32) -> [u32; 18] {
     [0, 1, 2, 4, 7, 16, 32, 33, 64, 65, 100, 256, 65536, u32::MAX, next, last, high ^ middle, low]
 }
 
-/// Random damage to the tables that a random sequence ended in, and random bytes.
+/// Random damage to the tables that a random sequence ended in or to blank ones, and random bytes.
 pub fn at_random(comparison: &mut Comparison, seed: u64, machine: &Machine) -> Compared {
     let mut rng = Rng::new(!seed);
-    let whole = layout::write(machine);
+    let blank = Machine::default();
     for step in 0..60 {
+        let machine = if rng.chance(3) { &blank } else { machine };
         let calls = probes(&mut rng, machine);
-        let mut bytes = whole.clone();
+        let mut bytes = layout::write(machine);
         let times = rng.pick(&[1, 1, 2, 3]);
         let done: Vec<String> = (0..times).map(|_| mutate(&mut rng, machine, &mut bytes)).collect();
         let place = Place { part: "random damage", seed, step };
@@ -170,10 +197,28 @@ fn wait(caller: u32, id: u32, timeout: u32) -> Call {
     Call::Obtain { caller, id, options: 0, timeout }
 }
 
-/// Several agreeing tables: unstarted, without a semaphore, small, crowded, and with one long queue.
+/// Several agreeing tables: unstarted, without a semaphore, small, of equals, crowded, and with one long queue.
 pub fn bases() -> Vec<Machine> {
     let fresh = made_by(&[Call::Start { slots: 1, priorities: vec![1] }]);
-    vec![Machine::default(), fresh, small(), crowded(), long_queue()]
+    vec![Machine::default(), fresh, small(), equals(), crowded(), long_queue()]
+}
+
+/// Six tasks of one priority: 4, 3, 5 and 2 are ready in this order, 1 and 6 wait.
+fn equals() -> Machine {
+    let made = made_by(&[
+        Call::Start { slots: 1, priorities: vec![4; 6] },
+        Call::Create { caller: 1, name: 9, count: 0, attributes: 0 },
+        wait(3, 65537, 0),
+        wait(5, 65537, 0),
+        wait(2, 65537, 0),
+        wait(1, 65537, 1),
+        wait(6, 65537, 0),
+        Call::Release { caller: 0, id: 65537 },
+        Call::Release { caller: 0, id: 65537 },
+        Call::Release { caller: 0, id: 65537 },
+    ]);
+    assert_eq!(made.ready, [4, 3, 5, 2], "the tasks became ready in this order");
+    made
 }
 
 /// Two tasks wait for the binary semaphore of the third.

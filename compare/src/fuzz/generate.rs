@@ -22,12 +22,13 @@ pub struct Plan {
 const TIMEOUTS: &[u32] = &[0, 1, 1, 2, 3, 5, 9, 1 << 24, u32::MAX];
 const STEADY_TIMEOUTS: &[u32] = &[5, 20, 100, 500];
 
-/// Weights of the calls, in the order of `KINDS`: mixed, contended, filling, churning.
-const WEIGHTS: [[u32; 9]; 4] = [
+/// Weights of the calls, in the order of `KINDS`: mixed, contended, filling, churning, waking many at once.
+const WEIGHTS: [[u32; 9]; 5] = [
     [1, 12, 4, 6, 36, 22, 3, 8, 8],
     [1, 4, 2, 1, 55, 18, 2, 7, 10],
     [1, 70, 3, 2, 10, 6, 1, 4, 3],
     [1, 35, 4, 35, 12, 5, 2, 3, 3],
+    [1, 12, 1, 12, 52, 4, 8, 8, 2],
 ];
 
 const ATTRIBUTES: [u32; 6] = [0, 4, 16, 20, 32, 36];
@@ -39,7 +40,8 @@ impl Plan {
         let tasks = rng.pick(&[1, 2, 3, 4, 8, 32, 32, any]) as usize;
         let any = rng.between(1, 64);
         let slots = rng.pick(&[1, 2, 3, 4, 8, 64, 64, any]);
-        let spread = rng.pick(&[1, 2, 3, 3, 255]);
+        // Few priorities for many tasks: equals are the common case.
+        let spread = rng.pick(&[1, 2, 2, 3, 3, 255]);
         Plan {
             steps: 400,
             edits: rng.pick(&[0, 2, 5]),
@@ -88,7 +90,8 @@ impl Plan {
         }
         if rng.chance(20) {
             let length = rng.pick(&[0, 1, 31, 32, 33, 64, 255, 300]);
-            priorities = (0..length).map(|_| rng.between(1, 255)).collect();
+            let spread = rng.pick(&[2, 2, 255]);
+            priorities = (0..length).map(|_| rng.between(1, spread)).collect();
         }
         if rng.chance(20) && !priorities.is_empty() {
             let place = rng.below(priorities.len());

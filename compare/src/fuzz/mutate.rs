@@ -1,5 +1,8 @@
 //! Random damage to agreeing tables, some of which leaves them in agreement.
 
+mod ready;
+
+use crate::fuzz::mutate::ready::{damage_sequence, join_sequence, leave_sequence};
 use crate::fuzz::rng::Rng;
 use crate::layout::*;
 use crate::model::{identifier, Machine};
@@ -7,7 +10,7 @@ use crate::status::*;
 
 /// Does one random damage and says which.
 pub fn mutate(rng: &mut Rng, machine: &Machine, bytes: &mut [u8]) -> String {
-    match rng.below(10) {
+    match rng.below(14) {
         0 => flip_bit(rng, bytes),
         1 | 2 => set_some_word(rng, machine, bytes),
         3 => swap_words(rng, machine, bytes),
@@ -15,7 +18,8 @@ pub fn mutate(rng: &mut Rng, machine: &Machine, bytes: &mut [u8]) -> String {
         5 => alter_counts(rng, bytes),
         6 => drop_waiter(rng, machine, bytes),
         7 => free_slot(rng, machine, bytes),
-        _ => add_waiter(rng, machine, bytes),
+        8 | 9 => add_waiter(rng, machine, bytes),
+        _ => damage_sequence(rng, machine, bytes),
     }
 }
 
@@ -23,6 +27,9 @@ pub fn mutate(rng: &mut Rng, machine: &Machine, bytes: &mut [u8]) -> String {
 fn draw_word(rng: &mut Rng, machine: &Machine) -> usize {
     if machine.tasks.is_empty() || rng.chance(10) {
         return rng.below(WORDS);
+    }
+    if rng.chance(15) {
+        return READY + rng.below(machine.ready.len() + 2).min(MOST_TASKS);
     }
     if rng.chance(35) {
         return task_at(rng.between(1, machine.tasks.len() as u32)) + rng.below(TASK_WORDS);
@@ -81,13 +88,16 @@ fn alter_counts(rng: &mut Rng, bytes: &mut [u8]) -> String {
     let was = word(bytes, at);
     let value = rng.pick(&[was.wrapping_add(1), was.wrapping_sub(1)]);
     set_word(bytes, at, value);
-    if at == TASKS && rng.chance(50) && is_task_number(value) {
+    if at == TASKS && value == was.wrapping_add(1) && is_task_number(value) && rng.chance(70) {
         set_word(bytes, task_at(value) + PRIORITY_OF, MOST_URGENT);
+        if rng.chance(70) {
+            join_sequence(bytes, value);
+        }
     }
     format!("{} set to {value}", word_name(at))
 }
 
-/// Takes the last waiter out of a queue, with or without making the task ready.
+/// Takes the last waiter out of a queue, with or without making the task ready and putting it into the sequence.
 fn drop_waiter(rng: &mut Rng, machine: &Machine, bytes: &mut [u8]) -> String {
     let Some(index) = draw_live(rng, machine) else { return "nothing".into() };
     let at = slot_at(index);
@@ -103,7 +113,14 @@ fn drop_waiter(rng: &mut Rng, machine: &Machine, bytes: &mut [u8]) -> String {
     if readied {
         (ANSWER..TASK_WORDS).for_each(|field| set_word(bytes, task_at(task) + field, 0));
     }
-    format!("task {task} out of the queue of slot {}, made ready: {readied}", index + 1)
+    let joins = rng.chance(if readied { 80 } else { 10 });
+    if joins {
+        join_sequence(bytes, task);
+    }
+    let slot = index + 1;
+    format!(
+        "task {task} out of the queue of slot {slot}, made ready: {readied}, in the sequence: {joins}"
+    )
 }
 
 fn free_slot(rng: &mut Rng, machine: &Machine, bytes: &mut [u8]) -> String {
@@ -114,7 +131,7 @@ fn free_slot(rng: &mut Rng, machine: &Machine, bytes: &mut [u8]) -> String {
     format!("words 1 to {} of slot {} zeroed", reach - 1, index + 1)
 }
 
-/// Puts a task at the rear of a queue, with or without making it wait there.
+/// Puts a task at the rear of a queue, with or without making it wait there and taking it out of the sequence.
 fn add_waiter(rng: &mut Rng, machine: &Machine, bytes: &mut [u8]) -> String {
     let Some(index) = draw_live(rng, machine) else { return "nothing".into() };
     let at = slot_at(index);
@@ -134,5 +151,10 @@ fn add_waiter(rng: &mut Rng, machine: &Machine, bytes: &mut [u8]) -> String {
             identifier(word(bytes, at + GENERATION) & 0xFFFF, index),
         );
     }
-    format!("task {task} put in the queue of slot {}, made to wait: {waits}", index + 1)
+    let leaves = rng.chance(if waits { 80 } else { 10 });
+    if leaves {
+        leave_sequence(bytes, task);
+    }
+    let slot = index + 1;
+    format!("task {task} put in the queue of slot {slot}, made to wait: {waits}, out of the sequence: {leaves}")
 }

@@ -38,7 +38,7 @@ fn edit(rng: &mut Rng, machine: &Machine, bytes: &mut [u8]) {
         return;
     }
     let index = rng.below(machine.slots.len());
-    match rng.below(6) {
+    match rng.below(7) {
         0 => edit_every_semaphore(rng, machine, bytes),
         1 => edit_semaphore(rng, machine, index, bytes),
         2 => edit_generation(rng, machine, index, bytes),
@@ -49,8 +49,18 @@ fn edit(rng: &mut Rng, machine: &Machine, bytes: &mut [u8]) {
                 set_word(bytes, slot_at(index) + GENERATION, near_end);
             }
         }
+        4 => edit_sequence(rng, machine, bytes),
         _ => edit_task(rng, machine, bytes),
     }
+}
+
+/// The ready tasks in any order.
+fn edit_sequence(rng: &mut Rng, machine: &Machine, bytes: &mut [u8]) {
+    let mut sequence = machine.ready.clone();
+    for last in (1..sequence.len()).rev() {
+        sequence.swap(last, rng.below(last + 1));
+    }
+    set_sequence(bytes, &sequence);
 }
 
 fn edit_every_semaphore(rng: &mut Rng, machine: &Machine, bytes: &mut [u8]) {
@@ -90,7 +100,8 @@ fn edit_task(rng: &mut Rng, machine: &Machine, bytes: &mut [u8]) {
         State::Ready { .. } => {
             let endings = [SUCCESSFUL, TIMEOUT, OBJECT_WAS_DELETED, UNSATISFIED];
             set_word(bytes, at + ANSWER, rng.pick(&endings));
-            set_word(bytes, at + PRIORITY_OF, rng.between(MOST_URGENT, LEAST_URGENT));
+            let least = rng.pick(&[3, 3, LEAST_URGENT]);
+            set_word(bytes, at + PRIORITY_OF, rng.between(MOST_URGENT, least));
         }
     }
 }

@@ -19,7 +19,7 @@ fn words_agree(words: &Words) -> bool {
         return false;
     }
     let Some(waiting) = waiting_tasks(words, tasks) else { return false };
-    let (task_words, slot_words) = (&words[FIRST_TASK..FIRST_SLOT], &words[FIRST_SLOT..]);
+    let (task_words, slot_words) = (&words[FIRST_TASK..FIRST_SLOT], &words[FIRST_SLOT..READY]);
     let mut queued = 0;
     for (index, slot) in slot_words.chunks_exact(SLOT_WORDS).take(slots as usize).enumerate() {
         match queued_tasks(task_words, tasks, index, slot) {
@@ -28,6 +28,7 @@ fn words_agree(words: &Words) -> bool {
         }
     }
     queued == waiting
+        && sequence_tasks(words, tasks) == Some(waiting ^ (u32::MAX >> (MOST_TASKS as u32 - tasks)))
         && is_zero(&task_words[tasks as usize * TASK_WORDS..])
         && is_zero(&slot_words[slots as usize * SLOT_WORDS..])
 }
@@ -56,6 +57,24 @@ fn waiting_tasks(words: &Words, tasks: u32) -> Option<u32> {
         }
     }
     Some(waiting)
+}
+
+/// The tasks of the ready sequence as bits, each of which stands there once.
+fn sequence_tasks(words: &Words, tasks: u32) -> Option<u32> {
+    let length = get(words, READY) as usize;
+    let sequence = &words[SEQUENCE..];
+    if length > MOST_TASKS || !is_zero(&sequence[length..]) {
+        return None;
+    }
+    let mut ready = 0u32;
+    for entry in &sequence[..length] {
+        let number = u32::from_be_bytes(*entry);
+        if number == 0 || number > tasks || ready & (1 << (number - 1)) != 0 {
+            return None;
+        }
+        ready |= 1 << (number - 1);
+    }
+    Some(ready)
 }
 
 /// The tasks queued at a slot as bits, or nothing if the slot breaks a rule.

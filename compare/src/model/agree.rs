@@ -4,16 +4,17 @@ use crate::model::{identifier, Class, Machine, Order, Semaphore, State, Task};
 use crate::status::*;
 
 impl Machine {
-    /// Document 01's agreement of the tables, over a machine read from them.
+    /// The rules' agreement of the tables, over a machine read from them.
     pub fn agrees(&self) -> bool {
         if self.tasks.is_empty() {
-            return self.slots.is_empty();
+            return self.slots.is_empty() && self.ready.is_empty();
         }
         !self.slots.is_empty()
             && self.tasks.iter().all(Task::is_in_limits)
             && self.slots.iter().all(|slot| slot.generation <= LAST_GENERATION)
             && self.live_slots().all(|(id, semaphore)| id >= 65536 && self.admits(semaphore))
             && self.queues_hold_waiters()
+            && self.sequence_holds_ready()
     }
 
     /// Each live semaphore with its identifier.
@@ -65,6 +66,18 @@ impl Machine {
             State::Ready { .. } => None,
         });
         waits.eq(queued)
+    }
+
+    /// Each ready task stands in the sequence once, and nothing else does.
+    fn sequence_holds_ready(&self) -> bool {
+        let mut sequence = self.ready.clone();
+        sequence.sort_unstable();
+        sequence == self.ready_by_number()
+    }
+
+    /// The ready tasks in the order of their numbers, which is that of the sequence at start.
+    pub fn ready_by_number(&self) -> Vec<u32> {
+        (1..=self.tasks.len() as u32).filter(|&task| !self.is_waiting(task)).collect()
     }
 }
 

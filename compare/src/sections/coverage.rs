@@ -2,6 +2,7 @@
 
 use std::collections::BTreeMap;
 
+use crate::fuzz::coverage::next_passes_a_lower_equal;
 use crate::model::State;
 use crate::sections::read::{self, Fault};
 use crate::sections::refusals::REFUSALS;
@@ -10,7 +11,7 @@ use crate::sections::*;
 use crate::status::*;
 
 /// Everything that random runs have to have shown, besides refusals and faults of the file.
-const HAPPENINGS: [&str; 58] = [
+const HAPPENINGS: [&str; 59] = [
     "11 before 4",
     "an event of no kind behind all others",
     "33 scripts or more",
@@ -69,6 +70,7 @@ const HAPPENINGS: [&str; 58] = [
     "granted run with two sections of one identifier in a script",
     "granted run at 8 sections, 16 steps and 64 cells",
     "run that finishes all its scripts",
+    "run that ends with a next task that is not the lowest of its equals",
 ];
 
 /// The faults of a file, by their reasons.
@@ -283,6 +285,8 @@ impl Coverage {
         let finished = |(script, place): (&Script, &Place)| place.section == script.sections.len();
         let all = input.scripts.iter().zip(&running.places).all(finished);
         self.happened("run that finishes all its scripts", granted && all);
+        let name = "run that ends with a next task that is not the lowest of its equals";
+        self.happened(name, granted && next_passes_a_lower_equal(&running.machine));
     }
 
     fn wanted() -> impl Iterator<Item = String> {
