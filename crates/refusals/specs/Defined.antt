@@ -8,7 +8,8 @@ use Rattle.laws.specs.Choose.{choose, _and_}
 use Rattle.rules.specs.Numbers.{maxNumber, notDefined}
 use Rattle.rules.specs.Machine.{Tables}
 use Rattle.sections.specs.Run.{Event}
-use Rattle.sections.specs.Refusals.{Input, limitsFit, stepsFit, oneScriptEach, eachScript, eachSection, eachEvent, isEvent, isGuard, isReady, isAllowed, refusal}
+use Rattle.sections.specs.Refusals.{Input, limitsFit, stepsFit, oneScriptEach, eachScript, eachSection, eachEvent, isEvent, isGuard}
+use Rattle.sections.specs.Refusals.{isReady, isAllowed, refusal}
 use Rattle.encoding.specs.Rows.{scriptsOf, rowsFit}
 use Rattle.encoding.specs.Events.{eventsOf}
 use Rattle.encoding.specs.Laid.{memory}

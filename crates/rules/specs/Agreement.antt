@@ -1,5 +1,5 @@
--- Document 01, with the ready sequence of request 1: when tables agree, a test for each clause. That the lent memory has its layout's length, and that everything beyond
--- N, S, a queue's length and the sequence's is 0, is said of the bytes: `isLaid` of crates/tables/specs/Layout.antt.
+-- Document 01, with the sequence of ready tasks of request 1: when tables agree, a test for each clause.
+-- That the lent memory has its layout's length, and that everything beyond N, S, a queue's length and the sequence's is 0, is said of the bytes: `isLaid` of crates/tables/specs/Layout.antt.
 use mathlib.Core.Path.{_≡_}
 use mathlib.Core.Bool.{Bool, true}
 use mathlib.Core.List.{List, [], _∷_}

@@ -1,4 +1,5 @@
--- Document 01, with the ready sequence of request 1: the eight calls, step by step, and the whole step with the test for 25. Checks give a status, or 0 for no refusal.
+-- Document 01, with the sequence of ready tasks of request 1: the eight calls, step by step, and the whole step with the test for 25.
+-- Checks give a status, or 0 for no refusal.
 -- The numbers of a call are those of 32 bits, which `callFits` of Fits.antt says; the definitions do not depend on it, that agreement is kept does.
 use mathlib.Core.Bool.{Bool}
 use mathlib.Core.List.{List, [], _∷_, _++_, map}

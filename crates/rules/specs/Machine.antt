@@ -1,5 +1,5 @@
 -- Document 01: a task, a slot, the tables, the identifier; request 1: the sequence of ready tasks, the next task.
--- Tasks and slots are counted from 1; 0 is none. `taskOf t 0` and `slotOf t 0` are the first record, and nothing of such a look reaches an answer or the tables.
+-- Tasks and slots are counted from 1; 0 is none. `taskOf t 0` and `slotOf t 0` are the first record, and nothing of that reaches an answer or the tables.
 use mathlib.Core.Bool.{Bool}
 use mathlib.Core.List.{List, [], _∷_}
 use Prim.Native.Nat.{ℕ, suc, pred, _+_, _*_, _/_, _%_}

@@ -17,7 +17,8 @@ use Rattle.rules.specs.Numbers.{isBinary, maximum, maxNumber}
 use Rattle.rules.specs.Machine.{Slot, Tables, noTask, freeSlot, slotOf, putSlot, waits, isLive, idOf, names, slotNamed, urgency}
 use Rattle.rules.specs.Agreement.{occurs}
 use Rattle.rules.specs.Semaphore.{handed, ownedBy, polls, placeOf, Taken, takeStep, Given, giveStep, passStep}
-use Rattle.rules.specs.Calls.{Outcome, answered, refused, readied, beginWait, blocked, wake, callerRefusal, anyCaller, taskOnly, obtainRefusal, obtain, releaseRefusal, release}
+use Rattle.rules.specs.Calls.{Outcome, answered, refused, readied, beginWait, blocked, wake, callerRefusal, anyCaller, taskOnly}
+use Rattle.rules.specs.Calls.{obtainRefusal, obtain, releaseRefusal, release}
 use Rattle.rules.proofs.Invariants.Lists.{occurs-at, Updated, set-updated, updated-cases}
 use Rattle.rules.proofs.Invariants.Facts.{nthTask, nthSlot, Unheld, Held, Facts, live-within}
 use Rattle.rules.proofs.Invariants.Links.{nowhere, place-of-id}

@@ -20,7 +20,9 @@ use Rattle.rules.specs.Numbers.{isBinary, maximum, allowed, isSimple}
 use Rattle.rules.specs.Machine.{Slot, Tables, noTask, freeSlot, taskOf, slotOf, putSlot, waits, isLive, idOf, names, slotNamed, urgency}
 use Rattle.rules.specs.Agreement.{occurs}
 use Rattle.rules.specs.Semaphore.{handed, ownedBy, placeOf, Taken, takeStep, Given, giveStep, passStep, flushStep}
-use Rattle.rules.specs.Calls.{Outcome, answered, readied, beginWait, blocked, wake, wakeAll, startRefusal, started, start, openSlot, createRefusal, newSemaphore, create, firstNamed, ident, deleteRefusal, delete, obtainRefusal, obtain, releaseRefusal, release, flushRefusal, flush, expires, ticked, tickedSlot, tick, perform}
+use Rattle.rules.specs.Calls.{Outcome, answered, readied, beginWait, blocked, wake, wakeAll, startRefusal, started, start, openSlot, createRefusal}
+use Rattle.rules.specs.Calls.{newSemaphore, create, firstNamed, ident, deleteRefusal, delete, obtainRefusal, obtain, releaseRefusal, release}
+use Rattle.rules.specs.Calls.{flushRefusal, flush, expires, ticked, tickedSlot, tick, perform}
 use Rattle.rules.proofs.Invariants.Lists.{occurs-at, getD-map}
 use Rattle.rules.proofs.Invariants.Facts.{nthTask, nthSlot, waitsOn, Unheld, Held, Facts, waits-within, live-within}
 use Rattle.rules.proofs.Invariants.Links.{SameWait, waits-there}
@@ -29,7 +31,8 @@ use Rattle.rules.proofs.Invariants.Refusals.{must, mustnt, task-only, any-calle
 use Rattle.rules.proofs.Invariants.Tick.{ticked-woken, ticked-same, ticked-none, ticked-free}
 use Rattle.rules.proofs.Invariants.Making.{Open, first-free}
 use Rattle.sections.specs.Run.{callerOf}
-use Rattle.sections.proofs.Others.{Watched, watched-same, handedTo, Woken, Handed, Observed, same-wait, observed-same, observed-unless, put-watched, observed-emptied}
+use Rattle.sections.proofs.Others.{Watched, watched-same, handedTo, Woken, Handed, Observed, same-wait, observed-same, observed-unless}
+use Rattle.sections.proofs.Others.{put-watched, observed-emptied}
 
 module _ (t : Tables) (f : Facts t) (i : ℕ) where
   -- a live binary semaphore with a unit left is nobody's

@@ -28,7 +28,8 @@ record Seen : Type 0 where
   read : List Grant
 
 seen : Tables → Input → List Event → Seen
-unfolding answersOf kindOf tabulate rows indexOf doStep doSteps plain said called actOf acted eventOf runFrom openOf limitsFit stepsFit oneScriptEach refusal run history grantsShown
+unfolding answersOf kindOf tabulate rows indexOf doStep doSteps plain said called actOf acted eventOf runFrom openOf limitsFit stepsFit oneScriptEach
+    refusal run history grantsShown
 seen t w events =
     let r = run t w events in
     let s = r .state in

@@ -56,7 +56,8 @@ module _ (t : Tables) (h : Holds t) where
       (λ l b. absurd (omega arith))
       (λ l b. absurd (omega arith))
       (λ i j u v l b. absurd (omega arith))
-      (λ i j u v l b. slot-word t i j u v ∙ ap (λ (s : Slot). getD (slotRow s) j 0) (List·getD-eq-default (t .slots) (freeSlot 0) (omega arith)) ∙ no-slot-word j)
+      (λ i j u v l b. slot-word t i j u v ∙ ap (λ (s : Slot). getD (slotRow s) j 0) (List·getD-eq-default (t .slots) (freeSlot 0) (omega arith))
+      ∙ no-slot-word j)
       (λ l b. absurd (omega arith))
       (λ j u l b. absurd (omega arith))
       k (omega arith) (omega arith) b

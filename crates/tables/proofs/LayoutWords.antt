@@ -95,7 +95,8 @@ module _ (ts : List Task) (ss : List Slot) (e : length ts ≡ 32) (f : length ss
     pub set-task : (v : Task) → i < 32 → sets (words n m ts ss row) (taskPlace i) (taskRow v) ≡ words n m (set ts i v) ss row
     set-task v h =
         ap (λ (x : List ℕ). sets x (taskPlace i) (taskRow v)) (nested (map taskRow ts) (map slotRow ss))
-        ∙ sets-between (n ∷ m ∷ []) (map taskRow ts) (rows (map slotRow ss) ++ row) wide-tasks i (omega (arith, length-map ts taskRow)) (taskPlace i) (taskRow v)
+        ∙ sets-between (n ∷ m ∷ []) (map taskRow ts) (rows (map slotRow ss) ++ row) wide-tasks i (omega (arith, length-map ts taskRow)) (taskPlace i)
+        (taskRow v)
         (omega arith) refl
         ∙ sym (nested (set (map taskRow ts) i (taskRow v)) (map slotRow ss))
         ∙ ap (λ (x : List (List ℕ)). n ∷ m ∷ rows x ++ rows (map slotRow ss) ++ row) (sym (map-set taskRow ts i v))
@@ -168,7 +169,10 @@ by-place P n m task slot ready sequence (suc zero) h = m
 by-place P n m task slot ready sequence (suc (suc k)) h =
     elim (decLt k 128) [
       | yes l ↦ in-tasks l
-      | no d ↦ elim (decLt k 2688) [ yes l ↦ in-slots (omega arith) l | no o ↦ elim (decLt k 2689) [ yes l ↦ at-ready (omega arith) | no u ↦ in-sequence (omega arith) ] ]
+      | no d ↦ elim (decLt k 2688) [
+        | yes l ↦ in-slots (omega arith) l
+        | no o ↦ elim (decLt k 2689) [ yes l ↦ at-ready (omega arith) | no u ↦ in-sequence (omega arith) ]
+      ]
     ]
   where
     in-tasks : k < 128 → P (suc (suc k))

@@ -45,7 +45,8 @@ returns c =
     let slots = tasks .before .before .before .before in
     let flags = slots .before .before in
     let start = flags .before .before in
-    all-ticked (start .before .args .m .now) _ (flags .expired .result) (flags .expired .ensures) (slots .tick-slots .ensures) _ _ (tasks .tick-tasks .ensures) (c .before .before .tick-ready .ensures)
+    all-ticked (start .before .args .m .now) _ (flags .expired .result) (flags .expired .ensures) (slots .tick-slots .ensures) _ _
+    (tasks .tick-tasks .ensures) (c .before .before .tick-ready .ensures)
 
 pub tick-tables-spec : {M : Type 1} → statement M
 tick-tables-spec =

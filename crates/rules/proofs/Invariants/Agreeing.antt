@@ -126,7 +126,8 @@ module _ (t : Tables) where
   live-at p e j h = when-then _ _ (all-at _ _ e j h)
 
   pub agrees-items : Agrees t → ItemsAgree t
-  unfolding numbersFit answersFit liveNamed attributesAllowed waitersQueued queuesWait queuesOrdered queuedAtZero binariesRight othersRight readyAtRest freeSlotsClear
+  unfolding numbersFit answersFit liveNamed attributesAllowed waitersQueued queuesWait queuesOrdered queuedAtZero binariesRight othersRight
+      readyAtRest freeSlotsClear
       readySequenced sequenceReady
   agrees-items a =
       let numbers = and-both _ _ (a .numbers) in
@@ -156,7 +157,8 @@ module _ (t : Tables) where
       }
 
   pub items-agree : ItemsAgree t → Agrees t
-  unfolding numbersFit answersFit liveNamed attributesAllowed waitersQueued queuesWait queuesOrdered queuedAtZero binariesRight othersRight readyAtRest freeSlotsClear
+  unfolding numbersFit answersFit liveNamed attributesAllowed waitersQueued queuesWait queuesOrdered queuedAtZero binariesRight othersRight
+      readyAtRest freeSlotsClear
       readySequenced sequenceReady
   items-agree a =
       record {
