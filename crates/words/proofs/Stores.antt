@@ -1,7 +1,7 @@
 -- Rows of words stored one word after another, and words tested one after another.
 use mathlib.Core.Path.{_≡_, refl, ap, ap₂, sym, _∙_}
 use mathlib.Core.Bool.{true}
-use mathlib.Core.List.{List}
+use mathlib.Core.List.{List, [], _∷_}
 use mathlib.Core.Logic.{_⊎_, inl, inr, ⊎-elim}
 use Prim.Native.Nat.{ℕ, _+_, _-_, _*_, _/_, _%_, _≤_, _<_}
 use native.Mathlib.Numerals.{add-one, add-four}
@@ -13,7 +13,7 @@ use lib.Seq.{sets, drop-cons, drop-length}
 use borrow.Author.Tests.{eq-eqb, eqb-true}
 use Rattle.laws.specs.All.{all}
 use Rattle.laws.proofs.Choose.{same-test}
-use Rattle.words.specs.Words.{bytesOfWord, bytesOf, wordAt, swapped, blank}
+use Rattle.words.specs.Words.{bytesOfWord, bytesOfSwapped, bytesOf, wordAt, swapped, blank}
 use Rattle.words.proofs.WordsInBytes.{blank-at, blank-of}
 
 -- the bytes of a row's rest are those of its next word, and of the rest behind it
@@ -62,6 +62,22 @@ swapped-bytes a b c d ha hb hc hd =
     ap₂ (λ (x y : ℕ). x * 16777216 + y % 256 * 65536 + w / 65536 % 256 * 256 + w / 16777216) first from-second
     ∙ ap₂ (λ (x y : ℕ). a * 16777216 + x * 65536 + y % 256 * 256 + w / 16777216) second from-third
     ∙ ap₂ (λ (x y : ℕ). a * 16777216 + b * 65536 + x * 256 + y) third fourth
+
+-- the bytes of a word, low byte first
+low-first : (a b c d : ℕ) → a < 256 → b < 256 → c < 256 → bytesOfSwapped (d * 16777216 + c * 65536 + b * 256 + a) ≡ a ∷ b ∷ c ∷ d ∷ []
+low-first a b c d ha hb hc =
+    let s : ℕ = d * 16777216 + c * 65536 + b * 256 + a in
+    let first : s % 256 ≡ a = omega arith in
+    let rest : s / 256 ≡ d * 65536 + c * 256 + b = omega arith in
+    let second : (d * 65536 + c * 256 + b) % 256 ≡ b = omega arith in
+    let others : s / 65536 ≡ d * 256 + c = omega arith in
+    let third : (d * 256 + c) % 256 ≡ c = omega arith in
+    let fourth : s / 16777216 ≡ d = omega arith in
+    λ k. first k ∷ (ap (λ (n : ℕ). n % 256) rest ∙ second) k ∷ (ap (λ (n : ℕ). n % 256) others ∙ third) k ∷ fourth k ∷ []
+
+-- a word turned round, and stored low byte first, has the word's own bytes
+pub bytes-swapped : (w : ℕ) → w < 4294967296 → bytesOfSwapped (swapped w) ≡ bytesOfWord w
+bytes-swapped w h = low-first (w / 16777216) (w / 65536 % 256) (w / 256 % 256) (w % 256) (omega arith) (omega arith) (omega arith)
 
 -- a byte of the word at i, and its limit
 abbrev pub IsByte : List ℕ → ℕ → ℕ → Type 0

@@ -3,7 +3,7 @@ use mathlib.Core.Bool.{Bool}
 use mathlib.Core.List.{List, [], _∷_, _++_}
 use Prim.Native.Nat.{ℕ, _+_, _-_, _*_, _/_, _%_}
 use lib.Dec.{eqb}
-use lib.ListN.{getD}
+use lib.ListN.{length, getD}
 use Rattle.laws.specs.All.{all}
 
 abbrev pub bytesOfWord : ℕ → List ℕ
@@ -21,6 +21,14 @@ wordAt bs i = getD bs (4 * i) 0 * 16777216 + getD bs (4 * i + 1) 0 * 65536 + get
 abbrev pub swapped : ℕ → ℕ
 swapped w = w % 256 * 16777216 + w / 256 % 256 * 65536 + w / 65536 % 256 * 256 + w / 16777216
 
+-- the bytes of a word that was turned round, low byte first: those of the word itself
+abbrev pub bytesOfSwapped : ℕ → List ℕ
+bytesOfSwapped w = w % 256 ∷ w / 256 % 256 ∷ w / 65536 % 256 ∷ w / 16777216 ∷ []
+
 -- every word from index `from` up to `to` is 0
 unfoldable pub blank : List ℕ → ℕ → ℕ → Bool
 blank bs from to = all (to - from) (λ k. eqb (wordAt bs (from + k)) 0)
+
+-- the words of a row stand from index i on
+unfoldable pub sameWords : List ℕ → ℕ → List ℕ → Bool
+sameWords bs i row = all (length row) (λ k. eqb (wordAt bs (i + k)) (getD row k 0))

@@ -3,7 +3,7 @@ ghost use mathlib.Core.Path.{_≡_};
 ghost use Prim.Native.Nat.{_+_, _*_, _≤_, _<_};
 ghost use lib.ListN.{length};
 ghost use lib.Seq.{sets};
-ghost use Rattle.words.specs.Words.{bytesOfWord, bytesOf, wordAt, blank, swapped};
+ghost use Rattle.words.specs.Words.{bytesOfWord, bytesOfSwapped, bytesOf, wordAt, blank, sameWords, swapped};
 
 fn wide(b: u8) -> u32
     ensures { λ r. ⌜ (r ≡ b) × (r < 256) ⌝ }
@@ -34,15 +34,23 @@ pub fn word(m: &[u8], i: usize) -> u32
     swapped(swapped_word(m, i))
 }
 
+// Low byte first, as it is read: in that order the compiler makes one store of them.
+fn set_swapped_word(m: &mut [u8], i: usize, w: u32)
+    requires { ⌜ 4 * i + 4 ≤ length (now m) ⌝ }
+    ensures { λ _. ⌜ now (m .exit) ≡ sets (now (m .entry)) (4 * i) (bytesOfSwapped w) ⌝ }
+{
+    let at = 4 * i;
+    m[at] = (w % 256) as u8;
+    m[at + 1] = (w / 256 % 256) as u8;
+    m[at + 2] = (w / 65536 % 256) as u8;
+    m[at + 3] = (w / 16777216) as u8;
+}
+
 pub fn set_word(m: &mut [u8], i: usize, w: u32)
     requires { ⌜ 4 * i + 4 ≤ length (now m) ⌝ }
     ensures { λ _. ⌜ now (m .exit) ≡ sets (now (m .entry)) (4 * i) (bytesOfWord w) ⌝ }
 {
-    let at = 4 * i;
-    m[at] = (w / 16777216) as u8;
-    m[at + 1] = (w / 65536 % 256) as u8;
-    m[at + 2] = (w / 256 % 256) as u8;
-    m[at + 3] = (w % 256) as u8;
+    set_swapped_word(m, i, swapped(w));
 }
 
 // The words of a row, from index i on.
@@ -55,6 +63,21 @@ pub fn set_words(m: &mut [u8], i: usize, row: &[u32])
         set_word(m, i + k, row[k]);
         k += 1;
     }
+}
+
+// Whether the words of a row stand from index i on.
+pub fn are_words(m: &[u8], i: usize, row: &[u32]) -> bool
+    requires { ⌜ 4 * i + 4 * length (now row) ≤ length (now m) ⌝ }
+    ensures { λ r. ⌜ r ≡ sameWords (now (m .entry)) i (now (row .entry)) ⌝ }
+{
+    let mut k = 0;
+    while k < row.len() {
+        if word(m, i + k) != row[k] {
+            return false;
+        }
+        k += 1;
+    }
+    true
 }
 
 // 0 exactly where both are.

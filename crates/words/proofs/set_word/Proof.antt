@@ -1,68 +1,31 @@
--- `words::set_word` meets its contract: four stores are the stores of a word's bytes.
+-- `words::set_word` meets its contract: the word is turned round, and its bytes stored low byte first.
 use borrow.Author.Needs.{needs}
+use mathlib.Core.Path.{ap, _∙_}
+use mathlib.Core.List.{List}
+use Prim.Native.Nat.{ℕ, _*_}
 use native.Mathlib.Omega.{arith}
-use native.Mathlib.Numerals.{towards-suc}
-use lib.ListN.{length-set}
+use lib.Seq.{sets}
+use Rattle.words.specs.Words.{bytesOfSwapped}
+use Rattle.words.proofs.Stores.{bytes-swapped}
 use Rattle.words.proofs.set_word.Statement.{statement}
 use Rattle.words.proofs.set_word.Tie as tie
 
-mul-at : tie.Need-mul-at
-mul-at c = search needs
+swapped-requires : tie.Need-swapped-requires
+swapped-requires c κs = search needs
 
-cast-m : tie.Need-cast-m
-cast-m c = search needs
-
-slice-write-m : tie.Need-slice-write-m
-slice-write-m c = search needs
-
-cast-m-2 : tie.Need-cast-m-2
-cast-m-2 c = search needs
-
-add-m : tie.Need-add-m
-add-m c = search needs
-
-slice-write-m-2 : tie.Need-slice-write-m-2
-slice-write-m-2 c = simp length-set (omega arith)
-
-cast-m-3 : tie.Need-cast-m-3
-cast-m-3 c = search needs
-
-add-m-2 : tie.Need-add-m-2
-add-m-2 c = search needs
-
-slice-write-m-3 : tie.Need-slice-write-m-3
-slice-write-m-3 c = simp length-set (omega arith)
-
-cast-m-4 : tie.Need-cast-m-4
-cast-m-4 c = search needs
-
-add-m-3 : tie.Need-add-m-3
-add-m-3 c = search needs
-
-slice-write-m-4 : tie.Need-slice-write-m-4
-slice-write-m-4 c = simp length-set (omega arith)
+set-swapped-word-requires : tie.Need-set-swapped-word-requires
+set-swapped-word-requires c κs = search needs
 
 same-length : tie.Need-same-length
 same-length c = search needs
 
 returns : tie.Need-returns
-returns c = simp towards-suc
+returns c =
+    let store = c .before .before in
+    let first = store .before .before .before .before .args in
+    store .set-swapped-word .ensures
+    ∙ ap (λ (v : ℕ). sets (first .m .now) (4 * first .i) (bytesOfSwapped v)) (store .before .swapped .ensures)
+    ∙ ap (λ (bs : List ℕ). sets (first .m .now) (4 * first .i) bs) (bytes-swapped (first .w) (omega arith))
 
 pub set-word-spec : {M : Type 1} → statement M
-set-word-spec =
-    tie.close
-    (tie.spec
-    mul-at
-    cast-m
-    slice-write-m
-    cast-m-2
-    add-m
-    slice-write-m-2
-    cast-m-3
-    add-m-2
-    slice-write-m-3
-    cast-m-4
-    add-m-3
-    slice-write-m-4
-    same-length
-    returns)
+set-word-spec = tie.close (tie.spec swapped-requires set-swapped-word-requires same-length returns)
