@@ -31,8 +31,12 @@ pub record Stands (k : Kept) (t : Tables) (begun : List ℕ) : Type 0 where
   pub few : k .begun ≤ 256 → begun ≡ take (k .begun) (k .line)
   pub many : 256 < k .begun → 256 < length begun
 
+-- with no line begun
+pub fresh-stands : (t : Tables) → Agrees t → (line : List ℕ) → length line ≡ 256 → Stands (keeps (laid t) line 0) t []
+fresh-stands t a line h = record { agrees = a; bytes = refl; full = h; few = λ _. refl; many = λ l. absurd (omega arith) }
+
 pub outset-stands : (line : List ℕ) → length line ≡ 256 → Stands (outset line) unstarted []
-outset-stands line h = record { agrees = unstarted-agrees; bytes = refl; full = h; few = λ _. refl; many = λ l. absurd (omega arith) }
+outset-stands = fresh-stands unstarted unstarted-agrees
 
 -- ---- a line's answer by the rules is the response on the bytes
 

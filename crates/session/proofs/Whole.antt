@@ -15,7 +15,7 @@ use Rattle.line.specs.Line.{ontoFirst}
 use Rattle.session.specs.Session.{lines, answerTo, outputs, session}
 use Rattle.session.specs.Kept.{Kept, keeps, outset, Response, endLine, lengthen, afterByte, saidTo, afterPart, saidToPart, atEnd, saidInParts, Reached}
 use Rattle.session.proofs.Feeding.{after-append, said-append}
-use Rattle.session.proofs.Standing.{Stands, outset-stands, end-answers, stands-newline, stands-other, none-begun, none-kept}
+use Rattle.session.proofs.Standing.{Stands, fresh-stands, outset-stands, end-answers, stands-newline, stands-other, none-begun, none-kept}
 
 -- no newline among the bytes of a line
 abbrev pub Plain : List ℕ → Type 0
@@ -125,6 +125,7 @@ stands-after k t begun (b ∷ bs) g =
     (stands-after (lengthen k b) t (begun ++ b ∷ []) bs (stands-other g b)))
     (tested (eqb b 10))
 
-pub reached-stands : (k : Kept) → Reached k → Standing k
-reached-stands k r =
-    subst Standing (sym (r .kept)) (stands-after (outset (r .line)) _ [] (r .text) (outset-stands (r .line) (r .full)))
+-- whatever the text, from tables that agree
+pub reached-stands : (t : Tables) → Agrees t → (k : Kept) → Reached (laid t) k → Standing k
+reached-stands t a k r =
+    subst Standing (sym (r .kept)) (stands-after (keeps (laid t) (r .line) 0) t [] (r .text) (fresh-stands t a (r .line) (r .full)))

@@ -82,9 +82,9 @@ unfoldable pub saidInParts : Kept → List (List ℕ) → List ℕ
 saidInParts k [] = atEnd k .output
 saidInParts k (p ∷ ps) = saidToPart k p ++ saidInParts (afterPart k p) ps
 
--- what is kept after some text from the outset, with what stood in the 256 bytes of a line then
-pub record Reached (k : Kept) : Type 0 where
+-- what is kept after some text from these lent bytes and no line, with what stood in the 256 bytes of a line then
+pub record Reached (bs : List ℕ) (k : Kept) : Type 0 where
   pub line : List ℕ
   pub full : length line ≡ 256
   pub text : List ℕ
-  pub kept : k ≡ afterPart (outset line) text
+  pub kept : k ≡ afterPart (keeps bs line 0) text

@@ -1,12 +1,12 @@
--- `mast_session::answer_some` meets its contract: what `session::feed` took is fed, and all that it wrote is handed on.
+-- `playing::answer_some` meets its contract: what `session::feed` took is fed, and all that it wrote is handed on.
 use mathlib.Core.Path.{sym}
 use native.Mathlib.Omega.{arith}
 use lib.Seq.{length-take-le}
 use borrow.Author.Needs.{needs}
 use Rattle.session.proofs.Feeding.{fed-fits}
-use Rattle.mast_session.proofs.Turning.{answers}
-use Rattle.mast_session.proofs.answer_some.Statement.{statement}
-use Rattle.mast_session.proofs.answer_some.Tie as tie
+use Rattle.playing.proofs.Turning.{answers}
+use Rattle.playing.proofs.answer_some.Statement.{statement}
+use Rattle.playing.proofs.answer_some.Tie as tie
 
 feed-requires : tie.Need-feed-requires
 feed-requires c κs = search needs

@@ -1,14 +1,14 @@
--- What the program does with what it reads: which bytes the session is fed, and how much of what it says is handed to standard output.
+-- What is done with what is read: which bytes the session is fed, and how much of what it says is handed to standard output.
 use mathlib.Core.Path.{_≡_}
 use mathlib.Core.Bool.{Bool, true, false}
 use mathlib.Core.List.{List, []}
 use mathlib.Core.Logic.{_⊎_}
 use Prim.Native.Nat.{ℕ, _≤_}
 use lib.ListN.{length, take}
-use Rattle.session.specs.Kept.{Kept, keeps, outset, afterPart, saidToPart, atEnd, Reached}
-use Rattle.mast_session.specs.declared.Heard.{Heard}
-use Rattle.mast_session.specs.declared.Heard.the-variants.{Bytes, End, Failed}
-use Rattle.mast_session.specs.declared.Turn.{Turn}
+use Rattle.session.specs.Kept.{Kept, keeps, afterPart, saidToPart, atEnd, Reached}
+use Rattle.playing.specs.declared.Heard.{Heard}
+use Rattle.playing.specs.declared.Heard.the-variants.{Bytes, End, Failed}
+use Rattle.playing.specs.declared.Turn.{Turn}
 
 -- the bytes taken are fed, in order and once, and as many bytes are handed on as are said to them
 pub record Turned (r : Turn) (k : Kept) (input bs line : List ℕ) : Type 0 where
@@ -33,19 +33,19 @@ Within (Bytes n) input = n ≤ length input
 Within End input = Unit {0}
 Within Failed input = Unit {0}
 
--- all the bytes that were read are fed, unless standard output fails; the end is answered; where reading fails nothing is done
+-- all the bytes that were read are fed, unless standard output fails; the end is answered, and only then all is done; where reading fails nothing is done
 abbrev pub Does : Turn → Heard → Kept → List ℕ → List ℕ → List ℕ → Type 0
-Does r (Bytes n) k input bs line = Turned r k (take n input) bs line × (r .going ≡ true → r .taken ≡ length (take n input))
+Does r (Bytes n) k input bs line = Turned r k (take n input) bs line × (r .going ≡ true → r .taken ≡ length (take n input)) × (r .done ≡ false)
 Does r End k input bs line = Ends (r .said) k bs × (r .going ≡ false)
-Does r Failed k input bs line = Turned r k [] bs line × (r .going ≡ false)
+Does r Failed k input bs line = Turned r k [] bs line × (r .going ≡ false) × (r .done ≡ false)
 
 -- whatever a read gave
 pub record DoesSome (r : Turn) (k : Kept) (input bs line : List ℕ) : Type 0 where
   pub heard : Heard
   pub does : Does r heard k input bs line
 
--- the lent bytes are those after some text from a machine not yet started, or those after its end
-pub record Ran (bs : List ℕ) : Type 0 where
+-- the lent bytes are those after some text from the bytes at the outset and, where all is done, after its end; where not, the end may still have come
+pub record Ran (outset : List ℕ) (done : Bool) (bs : List ℕ) : Type 0 where
   pub last : Kept
-  pub reached : Reached last
-  pub bytes : (bs ≡ last .bytes) ⊎ (bs ≡ atEnd last .bytes)
+  pub reached : Reached outset last
+  pub bytes : ((done ≡ false) × (bs ≡ last .bytes)) ⊎ (bs ≡ atEnd last .bytes)

@@ -1,7 +1,7 @@
--- `mast_session::answer_read` meets its contract: what was heard is answered.
+-- `playing::answer_read` meets its contract: what was heard is answered.
 use borrow.Author.Needs.{needs}
-use Rattle.mast_session.proofs.answer_read.Statement.{statement}
-use Rattle.mast_session.proofs.answer_read.Tie as tie
+use Rattle.playing.proofs.answer_read.Statement.{statement}
+use Rattle.playing.proofs.answer_read.Tie as tie
 
 hear-requires : tie.Need-hear-requires
 hear-requires c κs = search needs

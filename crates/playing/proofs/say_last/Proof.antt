@@ -1,10 +1,10 @@
--- `mast_session::say_last` meets its contract: the first n of 33 bytes are n.
+-- `playing::say_last` meets its contract: the first n of 33 bytes are n.
 use mathlib.Core.Path.{sym, _∙_}
 use native.Mathlib.Omega.{arith}
 use lib.Seq.{length-take-le}
 use borrow.Author.Needs.{needs}
-use Rattle.mast_session.proofs.say_last.Statement.{statement}
-use Rattle.mast_session.proofs.say_last.Tie as tie
+use Rattle.playing.proofs.say_last.Statement.{statement}
+use Rattle.playing.proofs.say_last.Tie as tie
 
 slice-aggregate-say : tie.Need-slice-aggregate-say
 slice-aggregate-say c = sym (length-take-le _ _ (omega arith))

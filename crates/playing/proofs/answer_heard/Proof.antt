@@ -1,4 +1,4 @@
--- `mast_session::answer_heard` meets its contract: the bytes are answered as a part, the end by itself, and a failed read not at all.
+-- `playing::answer_heard` meets its contract: the bytes are answered as a part, the end by itself, and a failed read not at all.
 use mathlib.Core.Path.{refl, sym}
 use mathlib.Core.Bool.{false}
 use mathlib.Core.List.{[]}
@@ -7,10 +7,10 @@ use denote.Ref.{now}
 use lib.Seq.{length-take-le}
 use borrow.Author.Needs.{needs}
 use Rattle.session.specs.Kept.{keeps}
-use Rattle.mast_session.specs.declared.Heard.the-variants.{Bytes, End, Failed}
-use Rattle.mast_session.proofs.Turning.{turned-none, within, does-as}
-use Rattle.mast_session.proofs.answer_heard.Statement.{statement}
-use Rattle.mast_session.proofs.answer_heard.Tie as tie
+use Rattle.playing.specs.declared.Heard.the-variants.{Bytes, End, Failed}
+use Rattle.playing.proofs.Turning.{turned-none, within, does-as}
+use Rattle.playing.proofs.answer_heard.Statement.{statement}
+use Rattle.playing.proofs.answer_heard.Tie as tie
 
 enum-known-heard : tie.Need-enum-known-heard
 enum-known-heard c = search needs
@@ -67,7 +67,7 @@ returns-3 : tie.Need-returns-3
 returns-3 c =
     let start = c .before .before .before .before .before .before .before in
     let kept = keeps (now (start .args .m)) (now (start .args .line)) (start .args .begun) in
-    does-as Failed _ kept (now (start .args .input)) _ _ (c .before .enum-told2 .given .1) (turned-none kept [] false, refl)
+    does-as Failed _ kept (now (start .args .input)) _ _ (c .before .enum-told2 .given .1) (turned-none kept [] false, refl, refl)
 
 pub answer-heard-spec : {M : Type 1} → statement M
 answer-heard-spec =

@@ -1,19 +1,19 @@
--- `mast_session::answer_part` meets its contract. The invariant: the bytes taken so far are fed, and what is said to them is handed on.
+-- `playing::answer_part` meets its contract. The invariant: the bytes taken so far are fed, and what is said to them is handed on.
 -- Each turn takes some of what is left.
 use mathlib.Core.Path.{_≡_, refl}
 use mathlib.Core.Bool.{Bool, true}
 use mathlib.Core.List.{List}
-use Prim.Native.Nat.{ℕ, _+_, _-_, _*_, _≤_}
+use Prim.Native.Nat.{ℕ, _+_, _-_}
 use native.Mathlib.Omega.{arith}
 use denote.Ref.{now}
 use lib.ListN.{length, take, drop}
 use borrow.Author.Needs.{needs}
 use Rattle.laws.proofs.Choose.{never}
 use Rattle.session.specs.Kept.{Kept, keeps}
-use Rattle.mast_session.specs.Turns.{Turned}
-use Rattle.mast_session.proofs.Turning.{turn, turned-none, turned-more, turned-few, rest-is}
-use Rattle.mast_session.proofs.answer_part.Statement.{statement}
-use Rattle.mast_session.proofs.answer_part.Tie as tie
+use Rattle.playing.specs.Turns.{Turned}
+use Rattle.playing.proofs.Turning.{turn, turned-none, turned-more, turned-few, rest-is}
+use Rattle.playing.proofs.answer_part.Statement.{statement}
+use Rattle.playing.proofs.answer_part.Tie as tie
 
 abbrev Inv-loop : tie.InvT-loop
 Inv-loop m₀ line₀ begun input out₀ taken₀ kept₀ said₀ m line out taken kept said =
@@ -84,7 +84,7 @@ same-length-2 : tie.Need-same-length-2 Inv-loop μ-loop
 same-length-2 c = search needs
 
 returns : tie.Need-returns Inv-loop μ-loop
-returns c = (turned (c .before .before) _, λ e. never e refl)
+returns c = (turned (c .before .before) _, λ e. never e refl, refl)
 
 loop-less : tie.Need-loop-less Inv-loop μ-loop
 loop-less c =
@@ -100,7 +100,7 @@ same-length-4 : tie.Need-same-length-4 Inv-loop μ-loop
 same-length-4 c = search needs
 
 returns-2 : tie.Need-returns-2 Inv-loop μ-loop
-returns-2 c = (c .before .loop .inv .2, λ e. omega (arith, c .before .loop .inv .2 .inside))
+returns-2 c = (c .before .loop .inv .2, λ e. omega (arith, c .before .loop .inv .2 .inside), refl)
 
 pub answer-part-spec : {M : Type 1} → statement M
 answer-part-spec =

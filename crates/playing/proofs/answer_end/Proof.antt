@@ -1,10 +1,10 @@
--- `mast_session::answer_end` meets its contract: all that `session::finish` wrote is handed on.
+-- `playing::answer_end` meets its contract: all that `session::finish` wrote is handed on.
 use denote.Ref.{now}
 use borrow.Author.Needs.{needs}
 use Rattle.session.specs.Kept.{keeps}
-use Rattle.mast_session.proofs.Turning.{ends, end-within}
-use Rattle.mast_session.proofs.answer_end.Statement.{statement}
-use Rattle.mast_session.proofs.answer_end.Tie as tie
+use Rattle.playing.proofs.Turning.{ends, end-within}
+use Rattle.playing.proofs.answer_end.Statement.{statement}
+use Rattle.playing.proofs.answer_end.Tie as tie
 
 finish-requires : tie.Need-finish-requires
 finish-requires c κs = search needs
@@ -19,7 +19,7 @@ returns : tie.Need-returns
 returns c =
     let start = c .before .before .before .before .before .before .before .before in
     ends (keeps (now (start .args .m)) (now (start .args .line)) (start .args .begun)) (c .before .before .before .before .finish .ensures)
-    (c .say-last .result) (c .say-last .ensures)
+    (c .say-last .result .length) (c .say-last .ensures)
 
 pub answer-end-spec : {M : Type 1} → statement M
 answer-end-spec = tie.close (tie.spec finish-requires say-last-requires same-length returns)

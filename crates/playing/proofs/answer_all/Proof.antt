@@ -1,20 +1,19 @@
--- `mast_session::answer_all` meets its contract. The invariant: what is kept is what the text read so far leaves from the outset.
+-- `playing::answer_all` meets its contract. The invariant: what is kept is what the text read so far leaves of the bytes lent.
 -- The turns are counted down.
 use mathlib.Core.Path.{_≡_, refl}
 use mathlib.Core.Logic.{inl}
 use native.Mathlib.Omega.{arith}
 use denote.Ref.{now}
 use lib.ListN.{length}
-use borrow.Author.Needs.{needs}
 use borrow.Author.Tests.{not-false}
 use Rattle.session.specs.Kept.{keeps, Reached}
-use Rattle.mast_session.proofs.Turning.{reached-outset, goes-on, stops}
-use Rattle.mast_session.proofs.answer_all.Statement.{statement}
-use Rattle.mast_session.proofs.answer_all.Tie as tie
+use Rattle.playing.proofs.Turning.{reached-none, goes-on, stops}
+use Rattle.playing.proofs.answer_all.Statement.{statement}
+use Rattle.playing.proofs.answer_all.Tie as tie
 
 abbrev Inv-loop : tie.InvT-loop
 Inv-loop fd name m₀ line₀ input₀ out₀ begun₀ turns₀ m line input out begun turns =
-    (length m ≡ length m₀) × (length input ≡ length input₀) × (length out ≡ length out₀) × Reached (keeps m line begun)
+    (length m ≡ length m₀) × (length input ≡ length input₀) × (length out ≡ length out₀) × Reached m₀ (keeps m line begun)
 
 abbrev μ-loop : tie.MeasureT-loop
 μ-loop fd name m₀ line₀ input₀ out₀ begun₀ turns₀ m line input out begun turns = turns
@@ -22,10 +21,10 @@ abbrev μ-loop : tie.MeasureT-loop
 loop-holds : tie.Need-loop-holds Inv-loop μ-loop
 loop-holds c =
     let start = c .before .before .before .before in
-    (refl, refl, refl, reached-outset (now (start .args .m)) (now (start .args .line)) (start .pre .3) (start .pre .2))
+    (refl, refl, refl, reached-none (now (start .args .m)) (now (start .args .line)) (start .pre .2))
 
 answer-read-requires : tie.Need-answer-read-requires Inv-loop μ-loop
-answer-read-requires c κs = (omega arith, omega arith, c .before .before .before .before .before .loop .inv .3)
+answer-read-requires c κs = (omega arith, omega arith)
 
 same-length : tie.Need-same-length Inv-loop μ-loop
 same-length c = omega arith
@@ -71,7 +70,7 @@ same-length-6 c = omega arith
 returns-2 : tie.Need-returns-2 Inv-loop μ-loop
 returns-2 c =
     let at = c .before .loop in
-    record { last = keeps (at .m) (at .line) (at .begun); reached = at .inv .3; bytes = inl refl }
+    record { last = keeps (at .m) (at .line) (at .begun); reached = at .inv .3; bytes = inl (refl, refl) }
 
 pub answer-all-spec : {M : Type 1} → statement M
 answer-all-spec =

@@ -1,24 +1,24 @@
--- Turns of the program: one after another they feed the input in order and once, from the outset.
-use mathlib.Core.Path.{_≡_, refl, sym, ap, ap₂, subst, _∙_}
+-- Turns: one after another they feed the input in order and once, from the outset.
+use mathlib.Core.Path.{_≡_, refl, sym, ap, subst, _∙_}
 use mathlib.Core.Bool.{Bool, true, false}
 use mathlib.Core.List.{List, [], _++_}
 use mathlib.Core.Logic.{inl, inr}
 use Prim.Native.Nat.{ℕ, _+_, _-_, _*_, _≤_}
 use native.Mathlib.Omega.{arith}
-use lib.ListN.{length, take, drop, length-append, length-drop}
-use lib.Seq.{take-add, take-all, take-nil, length-take-le}
+use lib.ListN.{length, take, drop, replicate, length-append, length-drop, length-replicate}
+use lib.Seq.{take-add, take-all, length-take-le}
 use Rattle.laws.proofs.Choose.{never}
 use Rattle.session.specs.declared.Fed.{Fed}
-use Rattle.session.specs.Kept.{Kept, keeps, outset, afterPart, saidToPart, atEnd, Reached}
+use Rattle.session.specs.Kept.{Kept, keeps, afterPart, saidToPart, atEnd, Reached}
 use Rattle.session.specs.Feeding.{Writes, FedIs}
 use Rattle.session.proofs.Feeding.{after-append, said-append, part-few, fed-inside, fed-some, fed-fits, fed-text, at-end-few}
-use Rattle.mast_session.specs.declared.Heard.{Heard}
-use Rattle.mast_session.specs.declared.Heard.the-variants.{Bytes, End, Failed}
-use Rattle.mast_session.specs.declared.Turn.{Turn}
-use Rattle.mast_session.specs.Turns.{Turned, Answers, Ends, Within, Does, Ran}
+use Rattle.playing.specs.declared.Heard.{Heard}
+use Rattle.playing.specs.declared.Heard.the-variants.{Bytes, End, Failed}
+use Rattle.playing.specs.declared.Turn.{Turn}
+use Rattle.playing.specs.Turns.{Turned, Answers, Ends, Within, Does, Ran}
 
 abbrev pub turn : ℕ → ℕ → ℕ → Bool → Turn
-turn taken begun said going = record { taken = taken; begun = begun; said = said; going = going }
+turn taken begun said going = record { taken = taken; begun = begun; said = said; going = going; done = false }
 
 -- ---- one feed, with all of what was written handed on
 
@@ -92,31 +92,41 @@ does-as h′ r k input bs line e d = subst (λ (x : Heard). Does r x k input bs 
 
 -- ---- from the outset
 
-pub reached-outset : (bs line : List ℕ) → bs ≡ outset line .bytes → length line ≡ 256 → Reached (keeps bs line 0)
+pub reached-none : (bs line : List ℕ) → length line ≡ 256 → Reached bs (keeps bs line 0)
 unfolding afterPart
-reached-outset bs line e h = record { line = line; full = h; text = []; kept = ap (λ (l : List ℕ). keeps l line 0) e }
+reached-none bs line h = record { line = line; full = h; text = []; kept = refl }
 
-pub reached-more : {k k′ : Kept} (part : List ℕ) → Reached k → k′ ≡ afterPart k part → Reached k′
-reached-more part g e =
+pub reached-more : {bs : List ℕ} {k k′ : Kept} (part : List ℕ) → Reached bs k → k′ ≡ afterPart k part → Reached bs k′
+reached-more {bs} part g e =
     record {
       line = g .line;
       full = g .full;
       text = g .text ++ part;
-      kept = e ∙ ap (λ (s : Kept). afterPart s part) (g .kept) ∙ sym (after-append (outset (g .line)) (g .text) part);
+      kept = e ∙ ap (λ (s : Kept). afterPart s part) (g .kept) ∙ sym (after-append (keeps bs (g .line) 0) (g .text) part);
     }
 
-module _ (r : Turn) (k : Kept) (bs line : List ℕ) (g : Reached k) where
-  turned-reached : (input : List ℕ) → Turned r k input bs line → Reached (keeps bs line (r .begun))
+module _ (r : Turn) (k : Kept) {outset : List ℕ} (bs line : List ℕ) (g : Reached outset k) where
+  turned-reached : (input : List ℕ) → Turned r k input bs line → Reached outset (keeps bs line (r .begun))
   turned-reached input t = reached-more (take (r .taken) input) g (t .kept)
 
-  -- a turn after which the program goes on
-  pub goes-on : (input : List ℕ) (heard : Heard) → Does r heard k input bs line → r .going ≡ true → Reached (keeps bs line (r .begun))
+  -- a turn after which there are more
+  pub goes-on : (input : List ℕ) (heard : Heard) → Does r heard k input bs line → r .going ≡ true → Reached outset (keeps bs line (r .begun))
   goes-on input (Bytes n) d e = turned-reached (take n input) (d .0)
   goes-on input End d e = never e (d .1)
   goes-on input Failed d e = never e (d .1)
 
-  -- and one after which it stops
-  pub stops : (input : List ℕ) (heard : Heard) → Does r heard k input bs line → Ran bs
-  stops input (Bytes n) d = record { last = keeps bs line (r .begun); reached = turned-reached (take n input) (d .0); bytes = inl refl }
+  -- and the last one
+  pub stops : (input : List ℕ) (heard : Heard) → Does r heard k input bs line → Ran outset (r .done) bs
+  stops input (Bytes n) d = record { last = keeps bs line (r .begun); reached = turned-reached (take n input) (d .0); bytes = inl (d .2, refl) }
   stops input End d = record { last = k; reached = g; bytes = inr (d .0 .bytes) }
-  stops input Failed d = record { last = keeps bs line (r .begun); reached = turned-reached [] (d .0); bytes = inl refl }
+  stops input Failed d = record { last = keeps bs line (r .begun); reached = turned-reached [] (d .0); bytes = inl (d .2, refl) }
+
+-- no text at all
+pub ran-none : (bs : List ℕ) → Ran bs false bs
+ran-none bs =
+    let line : List ℕ = replicate 256 0 in
+    record { last = keeps bs line 0; reached = reached-none bs line (length-replicate {A = ℕ} 256 0); bytes = inl (refl, refl) }
+
+-- the same bytes at the outset
+pub ran-from : {outset bs : List ℕ} {done : Bool} (from : List ℕ) → from ≡ outset → Ran from done bs → Ran outset done bs
+ran-from {bs = bs} {done = done} from e ran = subst (λ (l : List ℕ). Ran l done bs) e ran
