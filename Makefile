@@ -12,8 +12,8 @@ check:
 fmt:
 	@rt fmt
 
-# The programs: a session, from the proved crate mast_session, and runs of guarded sections.
-build: build/mast-session build/mast-sections
+# The programs: a session, from the proved crate mast_session, runs of guarded sections, and state files.
+build: build/mast-session build/mast-sections build/mast-state
 
 build/mast-session: FORCE
 	@mkdir -p build
@@ -43,6 +43,17 @@ else
 	@bash tools/show_sections
 endif
 
+# The program that saves, shows and resumes state files, from the proved crate mast_state.
+build/mast-state: FORCE
+	@mkdir -p build
+	@python3 tools/prove.py build/state.log rt check mast_state
+	@cmp -s target/bin/mast_state $@ || cp target/bin/mast_state $@
+
+# A tag's morning saved, shown, and resumed in the evening.
+.PHONY: state
+state: build/mast-state
+	@bash tools/show_state
+
 # The static library for C, from the proved crate capi; with TARGET=name, for a processor of tools/targets/table.txt.
 ifeq ($(origin TARGET),command line)
 lib:
@@ -51,11 +62,12 @@ else
 lib: build/libmastclover.a
 endif
 
-# An object for the calls and one for mast_run, so that a program links what it uses.
+# An object for the calls, one for mast_run and one for the state file, so that a program links what it uses.
+OBJECTS := capi capi_run capi_state
 build/libmastclover.a: FORCE
 	@mkdir -p build/members
-	@bash tools/archive capi capi_run
-	@cd build/members && rm -f * && ar x ../../target/staticlib/libcapi.a && ar x ../../target/staticlib/libcapi_run.a && ar rcsD all.a *.o
+	@bash tools/archive $(OBJECTS)
+	@cd build/members && rm -f * && for each in $(OBJECTS); do ar x ../../target/staticlib/lib$$each.a; done && ar rcsD all.a *.o
 	@cmp -s build/members/all.a $@ || cp build/members/all.a $@
 
 FORCE:
@@ -74,9 +86,11 @@ compare: lib
 SECONDS ?= 60
 SEED ?= 1
 RUNS ?= 100000
+FILES ?= 100
 fuzz: compare
 	compare/target/release/compare --seconds $(SECONDS) --seed $(SEED)
 	compare/target/release/compare_runs $(RUNS) $(SEED)
+	compare/target/release/compare_state $(FILES) $(SEED)
 
 # The static library over task records that a caller keeps itself, from the proved crate records, and such a caller.
 .PHONY: records

@@ -26,10 +26,10 @@
  * polls keeps its turn.
  *
  * Callers. `caller` is the number of the task that makes the call. An interrupt is caller 0; it may
- * call mast_release and mast_flush. mast_start, mast_ident, mast_tick, mast_task and mast_run have
- * no caller and may be called from anywhere. A call must not be interrupted by another one on the same
- * tables: mask interrupts around each call, and around the switch to `next`, if handlers make calls
- * too. examples/first.c shows both.
+ * call mast_release and mast_flush. mast_start, mast_ident, mast_tick, mast_task, mast_save, mast_load
+ * and mast_run have no caller and may be called from anywhere. A call must not be interrupted by
+ * another one on the same tables: mask interrupts around each call, and around the switch to `next`,
+ * if handlers make calls too. examples/first.c shows both.
  *
  * Waiting. mast_obtain never blocks. MAST_WAITING says that the caller now waits: it must not make
  * calls before it is ready again. How its wait ended is then the value of mast_task:
@@ -37,8 +37,8 @@
  * (flushed).
  *
  * Identifiers are generation * 65536 + slot, with slots from 1. A slot's generation goes up by one
- * with each create, so the identifier of a deleted semaphore is never given again. A slot freed at
- * generation 65535 is not used again.
+ * with each create, so the identifier of a deleted semaphore is never given again, and a slot freed
+ * at generation 65535 is not used again; mast_load alone goes back to the time of its file.
  *
  * Refusals. Every status but MAST_SUCCESSFUL and MAST_WAITING is a refusal: no byte of the tables
  * has changed. Each call names its statuses in the order in which they are tested.
@@ -58,6 +58,24 @@
  * Every call tests the whole of the tables first: MAST_INTERNAL_ERROR says that the memory has
  * another length, or that a number is out of its limits or contradicts another, so something else
  * wrote to it. The call has then changed nothing.
+ *
+ * The state file. mast_save writes the tables of a started machine as a file to keep or to send home,
+ * and mast_load reads it on a machine that is not started. It is a table of contents and four bodies,
+ * all of numbers of four bytes, high byte first; offsets, from the file's start, and lengths are in
+ * bytes:
+ *     contents            edition 1, the number of bodies 4, then kind, offset and length of each
+ *                         body: 14 numbers, so the first body is at byte 56
+ *     body of kind 1      four for each of N tasks: priority, answer, identifier waited on or 0,
+ *                         ticks left
+ *     body of kind 2      seven for each of S slots: generation, live (0 or 1), name, attributes,
+ *                         count, owner, nest
+ *     body of kind 3      for each of S slots: queue length, then as many task numbers, the first to
+ *                         be served first
+ *     body of kind 4      the sequence of the ready tasks (task numbers, the longest ready first)
+ * The bodies stand in this order without gaps, and nothing follows the last. The lengths of the first
+ * two say N and S, that of the last how many tasks are ready; the whole is 56 + 20 * N + 32 * S bytes.
+ * mast_load accepts exactly the files that mast_save writes of some started tables that are not
+ * damaged, byte for byte, whether or not calls could lead to such tables, and gives back those tables.
  */
 #ifndef MASTCLOVER_H
 #define MASTCLOVER_H
@@ -72,6 +90,9 @@ extern "C" {
 /* The length in bytes of the tables; no other length is accepted. */
 #define MAST_TABLES_LENGTH 10892
 
+/* The length in bytes of the longest state file, that of 32 tasks and 64 slots. */
+#define MAST_STATE_MAXIMUM 2744
+
 /* The limits of mast_start. */
 #define MAST_MAXIMUM_TASKS 32
 #define MAST_MAXIMUM_SLOTS 64
@@ -85,11 +106,12 @@ extern "C" {
 #define MAST_TOO_MANY 5               /* no slot is left for another semaphore */
 #define MAST_TIMEOUT 6                /* a task's answer only: its ticks ran out */
 #define MAST_OBJECT_WAS_DELETED 7     /* a task's answer only: the semaphore was deleted */
+#define MAST_INVALID_SIZE 8           /* a buffer too short for the state file; no valid one */
 #define MAST_INVALID_NUMBER 10        /* a count above 1 for a binary class; N or S out of limits */
 #define MAST_NOT_DEFINED 11           /* attributes that are not offered; mast_run */
 #define MAST_RESOURCE_IN_USE 12       /* the binary semaphore has an owner */
 #define MAST_UNSATISFIED 13           /* not to be had, at its maximum; a task's answer: flushed */
-#define MAST_INCORRECT_STATE 14       /* the caller is waiting; already started */
+#define MAST_INCORRECT_STATE 14       /* the caller is waiting; already started, or not started yet */
 #define MAST_CALLED_FROM_ISR 18       /* an interrupt (caller 0) may not make this call */
 #define MAST_INVALID_PRIORITY 19      /* a priority outside 1 to 255 */
 #define MAST_NOT_OWNER_OF_RESOURCE 23 /* only its owner may release a binary semaphore */
@@ -263,6 +285,35 @@ mast_answer mast_tick(uint8_t *tables, size_t length);
  *   MAST_SUCCESSFUL        value: the task's answer
  */
 mast_answer mast_task(const uint8_t *tables, size_t length, uint32_t task);
+
+/*
+ * Writes the state file of the tables to the front of the `room` bytes that `file` points to; its
+ * length is the value. The bytes behind it keep their contents. MAST_STATE_MAXIMUM bytes are room for
+ * any. `file` may be NULL only when `room` is 0; it must not overlap the tables. From anywhere. Changes
+ * no byte of the tables, and no byte of `file` unless the answer is MAST_SUCCESSFUL.
+ *
+ *   MAST_INTERNAL_ERROR    the tables are damaged or have the wrong length
+ *   MAST_INCORRECT_STATE   not started
+ *   MAST_INVALID_SIZE      `room` is less than the file's length
+ *   MAST_SUCCESSFUL        value: the file's length in bytes
+ */
+mast_answer mast_save(const uint8_t *tables, size_t length, uint8_t *file, size_t room);
+
+/*
+ * Reads the state file of `file_length` bytes that `file` points to: the machine is started, with the
+ * tables of the file, and `next` is their next task. `file` is only read; it may be NULL only when
+ * `file_length` is 0, and must not overlap the tables. To load over a started machine, set all bytes of
+ * the tables to 0 first. From anywhere.
+ * Loading goes back in history: identifiers given out after the save are void, though a later create
+ * may give the same numbers again, and semaphores deleted after the save are there again. Keep no
+ * identifier of a later time.
+ *
+ *   MAST_INTERNAL_ERROR    the tables are damaged or have the wrong length
+ *   MAST_INCORRECT_STATE   already started
+ *   MAST_INVALID_SIZE      the bytes are no state file of undamaged, started tables; `next` is 0
+ *   MAST_SUCCESSFUL        the tables are those of the file
+ */
+mast_answer mast_load(uint8_t *tables, size_t length, const uint8_t *file, size_t file_length);
 
 /*
  * Guarded sections, run. A section is what a task does between the obtain and the release of one

@@ -1,7 +1,7 @@
 """Every `pub fn` of the libraries has an `ensures` that says something, and no entry point on lent tables has a `requires`.
 
-Entry points are the public functions of the crates named in ENTRIES and every `extern "C"` function. An `ensures` says
-nothing if it speaks of the result alone, as `r ≡ r`, or if each of its parts is an equation with the same two sides.
+Entry points are the public functions of the crates named in ENTRIES, outside of their private modules, and every
+`extern "C"` function. An `ensures` says nothing if it speaks of the result alone, as `r ≡ r`, or if each of its parts is an equation with the same two sides.
 """
 import pathlib
 import re
@@ -9,7 +9,7 @@ import sys
 
 from rt_source import functions
 
-ENTRIES = {"manager", "capi", "session"}
+ENTRIES = {"manager", "capi", "session", "state"}
 # Words that name neither a definition nor an argument.
 EMPTY = {"true", "false", "refl", "tt", "λ"}
 
@@ -43,6 +43,12 @@ def same_sides(part):
     return bool(sign) and left.strip() == right.strip()
 
 
+def is_open(path):
+    """Whether others can call what a file offers: lib.rt, or a module that lib.rt declares `pub`."""
+    library = path.parent / "lib.rt"
+    return path == library or not re.search(rf"^mod {path.stem};", library.read_text(), re.M)
+
+
 def faults(path, crate):
     for function in functions(path.read_text()):
         if not function.public:
@@ -52,7 +58,8 @@ def faults(path, crate):
             yield f"{function.line}: `{function.name}` has no ensures"
         elif all(map(says_nothing, ensures)):
             yield f"{function.line}: the ensures of `{function.name}` says nothing"
-        if (crate in ENTRIES or function.exported) and any(kind == "requires" for kind, _ in function.clauses):
+        entry = crate in ENTRIES and is_open(path) or function.exported
+        if entry and any(kind == "requires" for kind, _ in function.clauses):
             yield f"{function.line}: `{function.name}` is an entry point and has a requires"
 
 

@@ -12,7 +12,7 @@ import tempfile
 
 top = pathlib.Path(__file__).resolve().parent.parent
 NUMBERS = top / "crates/rules/specs/Numbers.antt"
-SPECS = {name: (top / f"crates/{name}/specs") for name in ("rules", "tables", "sections", "encoding")}
+SPECS = {name: (top / f"crates/{name}/specs") for name in ("rules", "tables", "sections", "encoding", "state")}
 # No call takes a generation, and every 32-bit number is one: these limits have no macro.
 UNNAMED = {"maxGeneration", "maxNumber"}
 
@@ -63,6 +63,7 @@ def expected():
     """Name to number, by the definitions."""
     sized = {
         "MAST_TABLES_LENGTH": number("tablesLength"),
+        "MAST_STATE_MAXIMUM": number("longestFile"),
         "MAST_MAXIMUM_TASKS": number("maxTasks"),
         "MAST_MAXIMUM_SLOTS": number("maxSlots"),
         "MAST_MINIMUM_PRIORITY": int(re.search(r"within (\d+) maxPriority", body("startRefusal"))[1]),

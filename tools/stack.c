@@ -6,14 +6,14 @@
 #include "mastclover.h"
 
 enum { STACK = 65536, PAINT = 0xA5 };
-enum function { START, CREATE, IDENT, DELETE, OBTAIN, RELEASE, FLUSH, TICK, TASK, RUN, FUNCTIONS };
+enum function { START, CREATE, IDENT, DELETE, OBTAIN, RELEASE, FLUSH, TICK, TASK, RUN, SAVE, LOAD, FUNCTIONS };
 
 static unsigned char stack[STACK];
 static uint8_t tables[MAST_TABLES_LENGTH];
 static ucontext_t here, there;
 
 static const char *const names[FUNCTIONS] = {
-    "start", "create", "ident", "delete", "obtain", "release", "flush", "tick", "task", "run",
+    "start", "create", "ident", "delete", "obtain", "release", "flush", "tick", "task", "run", "save", "load",
 };
 static size_t most[FUNCTIONS];
 static int ran;
@@ -42,6 +42,10 @@ static void run_sections(void)
     ran = grants[0] == 2 && cells[0] == 7 && locals[17] == 14;
 }
 
+/* A file of the tables, and a machine that is not started. */
+static uint8_t file[MAST_STATE_MAXIMUM], other[MAST_TABLES_LENGTH];
+static mast_answer answered;
+
 static void call(void)
 {
     static const uint32_t priorities[] = { 1, 2, 3, 3, 2, 1, 9, 8 };
@@ -56,6 +60,8 @@ static void call(void)
     case TICK: mast_tick(tables, sizeof tables); break;
     case TASK: mast_task(tables, sizeof tables, a); break;
     case RUN: run_sections(); break;
+    case SAVE: answered = mast_save(tables, sizeof tables, file, sizeof file); break;
+    case LOAD: answered = mast_load(other, sizeof other, file, a); break;
     case FUNCTIONS: break;
     }
 }
@@ -102,6 +108,14 @@ int main(void)
     run(RUN, 0, 0, 0, 0);
     if (!ran) {
         fprintf(stderr, "the run of sections did not come to its end\n");
+        return 1;
+    }
+    run(SAVE, 0, 0, 0, 0);
+    i = answered.value;
+    run(LOAD, i - 1, 0, 0, 0);
+    run(LOAD, i, 0, 0, 0);
+    if (answered.status != MAST_SUCCESSFUL || memcmp(tables, other, sizeof tables) != 0) {
+        fprintf(stderr, "the file saved was not loaded\n");
         return 1;
     }
     for (i = 0; i < FUNCTIONS; i++)

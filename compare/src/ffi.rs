@@ -2,6 +2,7 @@
 
 use crate::call::{Answer, Call, Manager};
 use crate::sections::lent::Lent;
+use crate::state::Keeper;
 
 #[repr(C)]
 struct MastAnswer {
@@ -40,6 +41,8 @@ unsafe extern "C" {
     fn mast_flush(tables: *mut u8, length: usize, caller: u32, id: u32) -> MastAnswer;
     fn mast_tick(tables: *mut u8, length: usize) -> MastAnswer;
     fn mast_task(tables: *const u8, length: usize, task: u32) -> MastAnswer;
+    fn mast_save(tables: *const u8, length: usize, file: *mut u8, room: usize) -> MastAnswer;
+    fn mast_load(tables: *mut u8, length: usize, file: *const u8, file_length: usize) -> MastAnswer;
     fn mast_run(
         tables: *mut u8,
         length: usize,
@@ -104,6 +107,18 @@ pub fn tick(tables: &mut [u8]) -> Answer {
 
 pub fn task(tables: &[u8], task: u32) -> Answer {
     unsafe { mast_task(tables.as_ptr(), tables.len(), task) }.into()
+}
+
+// Without a file C passes a null pointer, and so do these.
+
+pub fn save(tables: &[u8], file: &mut [u8]) -> Answer {
+    let first = if file.is_empty() { std::ptr::null_mut() } else { file.as_mut_ptr() };
+    unsafe { mast_save(tables.as_ptr(), tables.len(), first, file.len()) }.into()
+}
+
+pub fn load(tables: &mut [u8], file: &[u8]) -> Answer {
+    let first = if file.is_empty() { std::ptr::null() } else { file.as_ptr() };
+    unsafe { mast_load(tables.as_mut_ptr(), tables.len(), first, file.len()) }.into()
 }
 
 /// Numbers between two guards, which a write outside of what is lent would change.
@@ -187,5 +202,15 @@ impl Manager for Library {
             Call::Tick => tick(tables),
             Call::Task { task: number } => task(tables, number),
         }
+    }
+}
+
+impl Keeper for Library {
+    fn save(&mut self, tables: &[u8], file: &mut [u8]) -> Answer {
+        save(tables, file)
+    }
+
+    fn load(&mut self, tables: &mut [u8], file: &[u8]) -> Answer {
+        load(tables, file)
     }
 }

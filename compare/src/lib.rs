@@ -11,4 +11,5 @@ pub mod model;
 pub mod record;
 pub mod sections;
 pub mod session;
+pub mod state;
 pub mod status;

@@ -1,4 +1,4 @@
-//! The numbers of document 01: statuses, attributes, options and limits.
+//! The numbers of documents 01 and 02: statuses, attributes, options and limits.
 
 pub const SUCCESSFUL: u32 = 0;
 pub const INVALID_NAME: u32 = 3;
@@ -6,6 +6,7 @@ pub const INVALID_ID: u32 = 4;
 pub const TOO_MANY: u32 = 5;
 pub const TIMEOUT: u32 = 6;
 pub const OBJECT_WAS_DELETED: u32 = 7;
+pub const INVALID_SIZE: u32 = 8;
 pub const INVALID_NUMBER: u32 = 10;
 pub const NOT_DEFINED: u32 = 11;
 pub const RESOURCE_IN_USE: u32 = 12;

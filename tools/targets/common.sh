@@ -8,6 +8,7 @@ own=$kit/on/$(uname -m)
 clang=$own/toolchain/bin/clang
 mkdir -p "$made"
 export PYTHONDONTWRITEBYTECODE=1
+read -ra crates <<<"$(python3 "$here/exported.py")"
 
 # For qemu's boards: what they say by semihosting is standard output, and nothing else is shown or asked.
 semihosting=(-chardev stdio,id=said -semihosting-config enable=on,target=native,chardev=said -display none -monitor none -serial none -parallel none)

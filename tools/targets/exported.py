@@ -1,8 +1,12 @@
-"""The functions that crate capi exports, read from its source: what C sees of each, and what the module must hold for it."""
+"""The functions that a crate of the library exports, read from its source: what C sees of each, and what its module must hold for it.
+
+exported.py   prints the crates of the library"""
 import re
 from pathlib import Path
 
 ROOT = Path(__file__).resolve().parents[2]
+# Each has objects of its own in the library, so that a firmware links those whose functions it calls.
+CRATES = ("capi", "capi_state")
 WIDTHS = {"u8": 1, "u16": 2, "u32": 4, "u64": 8}
 FUNCTION = re.compile(r'pub\s+extern\s+"C"\s+fn\s+(\w+)\s*\((.*?)\)\s*(?:->\s*(\w+)\s*)?(?:requires|ensures|\{)', re.S)
 SLICE = re.compile(r"&(mut )?\[(\w+)\]")
@@ -42,8 +46,8 @@ class Parameter:
 class Function:
     """One exported function. It gives back a struct (`answer`), an integer (`number`, as LLVM writes its type) or nothing."""
 
-    def __init__(self, name, parameters, result):
-        self.name, self.parameters, self.number, self.answer = name, parameters, NUMBERS.get(result), None
+    def __init__(self, crate, name, parameters, result):
+        self.crate, self.name, self.parameters, self.number, self.answer = crate, name, parameters, NUMBERS.get(result), None
         if result and not self.number:
             self.answer = result
             self.fields, self.size = fields(result)
@@ -52,7 +56,15 @@ class Function:
         """The first line of the proved function in the module: a struct is given back by pointer, slices come by pointer."""
         words = ["ptr"] * bool(self.answer) + [each.inner for each in self.parameters]
         listed = ", ".join(f"{word} noundef %a{at}" for at, word in enumerate(words))
-        return f'define internal {self.given()} @"capi::{self.name}"({listed}) #0 {{'
+        return f'define internal {self.given()} {self.inner_name()}({listed}) #0 {{'
+
+    def inner_name(self):
+        """The proved function's name in the module that rattle makes."""
+        return f'@"{self.crate}::{self.name}"'
+
+    def raw_name(self):
+        """Its name in the module for another processor, for the shim to call."""
+        return f"{self.crate}_{self.name}"
 
     def given(self):
         """What the proved function gives back, as its definition writes it."""
@@ -78,7 +90,7 @@ class Function:
                       f"%r{register + 1} = getelementptr i8, ptr %r{register}, i64 8",
                       f"store i64 %a{at + 1}, ptr %r{register + 1}, align 8"]
             register += 2
-        call = rf'@"capi::{self.name}"\({", ".join(passed)}\)'
+        call = rf'{self.inner_name()}\({", ".join(passed)}\)'
         if self.number:
             given = f"noundef {self.number}"
             lines += [f"%r{register} = call {self.number} {call}", f"ret {self.number} %r{register}"]
@@ -90,19 +102,23 @@ class Function:
         return re.compile(head + "".join(rf"  {line}\n" for line in lines) + r"\}\n")
 
 
-def functions(source):
-    """The exported functions of a source text of capi, in its order."""
+def functions(crate, source):
+    """The exported functions of a source text of a crate, in its order."""
     found = []
     for name, listed, result in FUNCTION.findall(source):
         try:
             words = [part.split(":", 1) for part in listed.split(",") if part.strip()]
-            found.append(Function(name, [Parameter(word.strip(), kind.strip()) for word, kind in words], result))
+            found.append(Function(crate, name, [Parameter(word.strip(), kind.strip()) for word, kind in words], result))
         except Unknown as unknown:
-            raise Unknown(f"capi's {name}: {unknown}") from None
+            raise Unknown(f"{crate}'s {name}: {unknown}") from None
     if len(found) != source.count("#[no_mangle]"):
-        raise Unknown(f"capi marks {source.count('#[no_mangle]')} functions #[no_mangle], and {len(found)} of them could be read")
+        raise Unknown(f"{crate} marks {source.count('#[no_mangle]')} functions #[no_mangle], and {len(found)} of them could be read")
     return found
 
 
-def capi():
-    return functions((ROOT / "crates/capi/src/lib.rt").read_text())
+def functions_of(crate):
+    return functions(crate, (ROOT / f"crates/{crate}/src/lib.rt").read_text())
+
+
+if __name__ == "__main__":
+    print(*CRATES)

@@ -2,8 +2,10 @@
 
 measure.py TARGET..                 prints the tables of docs/TARGETS.md
 measure.py --check TARGET           fails if the library needs what the header does not name, or has no bound on its stack
-measure.py --painted FOLDER TARGET  fails if replay.c, run in that folder, found more stack used than the bound
-measure.py --bars TARGET BYTES STACK  fails if code and constants, or the most stack, reach these numbers
+measure.py --painted FOLDER TARGET  fails if replay.c or state.c, run in that folder, found more stack used than the bound
+measure.py --bars TARGET BYTES STACK [CRATE]  fails if code and constants, or the most stack, of a crate reach these numbers; of capi if none is named
+
+Each crate's objects are measured without the others', as a firmware links them that calls no function of another crate. mast.wasm has all.
 
 The stack of a function is its frame, which the compiler reports (-fstack-usage), and that of the deepest chain of functions it
 calls, taken from the assembly: any mention of another function counts as a call. What memcpy and memset take is not in it."""
@@ -12,10 +14,10 @@ import struct
 import sys
 from pathlib import Path
 
-from exported import ROOT, capi
+from exported import CRATES, ROOT, functions_of
 
 NEEDED = {"memcpy", "memmove", "memset"}
-PARTS = ("shim", "module", "support")
+SUPPORT = ("support", "division")
 TOKEN = re.compile(r'"([^"]+)"|([A-Za-z_][\w.]*)')
 
 
@@ -70,10 +72,21 @@ def folder(target):
     return ROOT / "build" / target
 
 
-def frames(target):
+def parts(crate):
+    """The objects that a firmware may link for a crate."""
+    return f"{crate}_shim", crate, *SUPPORT
+
+
+def linked(target, crate):
+    """The objects that it does link: the crate's own, and of SUPPORT what these need."""
+    shim, module, *support = [Elf((folder(target) / f"{part}.o").read_bytes()) for part in parts(crate)]
+    return [shim, module] + [each for each in support if each.defined & (shim.undefined | module.undefined)]
+
+
+def frames(target, crate):
     """Each function's own frame."""
     found = {}
-    for part in PARTS:
+    for part in parts(crate):
         for line in (folder(target) / f"{part}.su").read_text().splitlines():
             place, size, kind = line.split("\t")
             if kind != "static":
@@ -82,10 +95,10 @@ def frames(target):
     return found
 
 
-def calls(target, names):
+def calls(target, crate, names):
     """The functions that each function mentions."""
     found = {name: set() for name in names}
-    for part in PARTS:
+    for part in parts(crate):
         inside = None
         for line in (folder(target) / f"{part}.s").read_text().splitlines():
             label = re.match(r'"?([^"\s]+?)"?:', line)
@@ -98,11 +111,12 @@ def calls(target, names):
     return found
 
 
-def stacks(target):
-    """The most stack that each exported function takes, what it calls included."""
-    own = frames(target)
-    graph = calls(target, set(own))
-    missing = {function.name for function in capi()} - set(own)
+def stacks(target, crate):
+    """The most stack that each exported function of a crate takes, what it calls included."""
+    own = frames(target, crate)
+    graph = calls(target, crate, set(own))
+    names = [function.name for function in functions_of(crate)]
+    missing = set(names) - set(own)
     if missing:
         fail(f"{target}: no frame is known of {', '.join(sorted(missing))}")
 
@@ -111,43 +125,46 @@ def stacks(target):
             fail(f"{target}: {name} calls itself, so its stack has no bound")
         return own[name] + max((deepest(each, above + (name,)) for each in graph[name]), default=0)
 
-    return {function.name: deepest(function.name, ()) for function in capi()}
+    return {name: deepest(name, ()) for name in names}
 
 
-def measured(target):
-    """Code and constants in bytes, the symbols it needs, and the stacks."""
+def measured(target, crate):
+    """Code and constants in bytes, or None where another crate's are theirs too, the symbols that are needed, and the stacks."""
     if target.startswith("wasm"):
         code, imports = wasm((folder(target) / "mast.wasm").read_bytes())
         if imports:
             fail(f"{target}: mast.wasm has imports, and nobody gives it any")
-        return code, set(), stacks(target)
-    parts = [Elf((folder(target) / f"{part}.o").read_bytes()) for part in PARTS]
-    if any(part.writable for part in parts):
+        return code if crate == CRATES[0] else None, set(), stacks(target, crate)
+    objects = linked(target, crate)
+    if any(each.writable for each in objects):
         fail(f"{target}: the library has writable data of its own")
-    needs = set.union(*(part.undefined for part in parts)) - set.union(*(part.defined for part in parts))
+    needs = set.union(*(each.undefined for each in objects)) - set.union(*(each.defined for each in objects))
     if not needs <= NEEDED:
-        fail(f"{target}: the library needs {', '.join(sorted(needs - NEEDED))}, which the header does not name")
-    return sum(part.loaded for part in parts), needs, stacks(target)
+        fail(f"{target}: the objects of {crate} need {', '.join(sorted(needs - NEEDED))}, which the header does not name")
+    return sum(each.loaded for each in objects), needs, stacks(target, crate)
 
 
-def print_tables(targets):
-    found = {target: measured(target) for target in targets}
-    print("| target | code and constants, bytes | needs | most stack, bytes |\n|---|---|---|---|")
+def print_tables(crate, targets):
+    found = {target: measured(target, crate) for target in targets}
+    print(f"{crate}:\n\n| target | code and constants, bytes | needs | most stack, bytes |\n|---|---|---|---|")
     for target, (code, needs, stack) in found.items():
-        print(f"| {target} | {code:,} | {', '.join(sorted(needs)) or 'nothing'} | {max(stack.values()):,} |")
+        shown = f"in {CRATES[0]}'s" if code is None else f"{code:,}"
+        print(f"| {target} | {shown} | {', '.join(sorted(needs)) or 'nothing'} | {max(stack.values()):,} |")
     print(f"\n| stack, bytes | {' | '.join(targets)} |\n|---|{'---|' * len(targets)}")
-    for function in capi():
+    for function in functions_of(crate):
         print(f"| {function.name} | {' | '.join(str(found[target][2][function.name]) for target in targets)} |")
+    print()
 
 
 def check_painted(run, target):
-    """Painted stacks are within the bounds, given what replay.c's own memcpy and memset take."""
-    bounds = stacks(target)
-    own = dict(line.split("\t")[:2] for line in (run / "replay.su").read_text().splitlines())
+    """Painted stacks are within the bounds, given what the program's own memcpy and memset take."""
+    own = dict(line.split("\t")[:2] for line in (run / "program.su").read_text().splitlines())
     extra = sum(int(size) for place, size in own.items() if place.endswith((":memcpy", ":memmove", ":memset")))
     found = re.findall(r"^(mast_\w+) (\d+)$", (run / "out").read_text(), re.M)
-    if {name for name, _ in found} != set(bounds):
-        fail(f"{target}: the report has not every function's stack")
+    known = [stacks(target, crate) for crate in CRATES]
+    bounds = next((each for each in known if set(each) == {name for name, _ in found}), None)
+    if not bounds:
+        fail(f"{target}: the report has not the stack of every function of a crate")
     for name, painted in found:
         if int(painted) > bounds[name] + extra:
             fail(f"{target}: {name} took {painted} bytes of stack, and its bound is {bounds[name]}, with {extra} for memcpy and memset")
@@ -162,23 +179,25 @@ def print_instructions(run):
         print("  instructions at most: " + ", ".join(f"{name} {int(counts) * 200000 // loops:,}" for name, counts in found))
 
 
-def check_bars(target, most_bytes, most_stack):
-    code, _, stack = measured(target)
+def check_bars(target, most_bytes, most_stack, crate="capi"):
+    code, _, stack = measured(target, crate)
     if code >= int(most_bytes) or max(stack.values()) >= int(most_stack):
-        fail(f"{target}: {code} bytes of code and {max(stack.values())} of stack, and {most_bytes} and {most_stack} are the bars")
+        fail(f"{target}, {crate}: {code} bytes of code and {max(stack.values())} of stack, and {most_bytes} and {most_stack} are the bars")
 
 
 def main():
     match sys.argv[1:]:
         case ["--check", target]:
-            measured(target)
+            for crate in CRATES:
+                measured(target, crate)
         case ["--painted", run, target]:
             check_painted(Path(run), target)
             print_instructions(Path(run))
-        case ["--bars", target, most_bytes, most_stack]:
-            check_bars(target, most_bytes, most_stack)
+        case ["--bars", target, most_bytes, most_stack, *crate]:
+            check_bars(target, most_bytes, most_stack, *crate)
         case targets:
-            print_tables(targets)
+            for crate in CRATES:
+                print_tables(crate, targets)
 
 
 if __name__ == "__main__":

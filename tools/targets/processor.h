@@ -1,11 +1,12 @@
 /*
- * What replay.c has of a processor and of what runs it: reading, saying and leaving, by three system calls of Linux or, with BOARD
- * defined, by the semihosting of a Cortex-M, whose clock it reads as well; a call on another stack; and memcpy and the like.
+ * What replay.c and state.c have of a processor and of what runs it: reading, saying and leaving, by three system calls of Linux, with
+ * BOARD defined by the semihosting of a Cortex-M, whose clock is read as well, or by functions that node gives; a call on another
+ * stack; and memcpy and the like.
  */
 #include <stddef.h>
 #include <stdint.h>
 
-static long read_some(void *place, long most);
+__attribute__((unused)) static long read_some(void *place, long most);
 static void say(const char *text);
 __attribute__((noreturn)) static void leave(int status);
 static void start_clock(void);
@@ -29,6 +30,14 @@ __asm__(".syntax unified\n" MODE ".text\n"
 __asm__(".text\n"
         ".globl call_on\ncall_on: addi sp, sp, -16\nsw ra, 12(sp)\nsw s0, 8(sp)\nmv s0, sp\nmv sp, a1\njalr a0\n"
         "mv sp, s0\nlw s0, 8(sp)\nlw ra, 12(sp)\naddi sp, sp, 16\nret\n");
+#else
+/* No function of a WebAssembly module chooses the stack of another: nothing is painted there. */
+#define STACK_POINTER(place) ((place) = 0)
+void call_on(void (*function)(void), void *top)
+{
+    (void)top;
+    function();
+}
 #endif
 
 #if defined(BOARD)
@@ -99,27 +108,13 @@ static void start_clock(void)
     counts_in_loops = counts_since(earlier);
 }
 
-static uint32_t first_stack[256] __attribute__((aligned(8)));
+static uint32_t first_stack[1024] __attribute__((aligned(8)));
 __attribute__((section(".vectors"), used)) static const struct {
     uint32_t *stack;
     void (*handlers[15])(void);
-} vectors = { first_stack + 256, { begin, fault, fault, fault, fault, fault } };
+} vectors = { first_stack + 1024, { begin, fault, fault, fault, fault, fault } };
 
 #else
-
-long system_call(long number, long a, long b, long c);
-
-#if defined(__arm__)
-enum { EXIT = 1, READ = 3, SAY = 4 };
-__asm__(".globl _start\n.type _start, %function\n_start: bl begin\n"
-        ".globl system_call\n.type system_call, %function\nsystem_call:\n"
-        "push {r7, lr}\nmov r7, r0\nmov r0, r1\nmov r1, r2\nmov r2, r3\nsvc 0\npop {r7, pc}\n");
-#else
-enum { EXIT = 93, READ = 63, SAY = 64 };
-__asm__(".globl _start\n_start: call begin\n"
-        ".globl system_call\nsystem_call: mv a7, a0\nmv a0, a1\nmv a1, a2\nmv a2, a3\necall\nret\n");
-#endif
-enum { BUFFER = 65536 };
 
 /* No clock is read here. */
 static const uint32_t counts_in_loops = 0;
@@ -137,6 +132,37 @@ static uint32_t counts_since(uint32_t earlier)
 {
     return earlier;
 }
+
+#if defined(__wasm__)
+
+void node_say(const char *text);
+__attribute__((noreturn)) void node_leave(int status);
+
+static void say(const char *text)
+{
+    node_say(text);
+}
+
+static void leave(int status)
+{
+    node_leave(status);
+}
+
+#else
+
+long system_call(long number, long a, long b, long c);
+
+#if defined(__arm__)
+enum { EXIT = 1, READ = 3, SAY = 4 };
+__asm__(".globl _start\n.type _start, %function\n_start: bl begin\n"
+        ".globl system_call\n.type system_call, %function\nsystem_call:\n"
+        "push {r7, lr}\nmov r7, r0\nmov r0, r1\nmov r1, r2\nmov r2, r3\nsvc 0\npop {r7, pc}\n");
+#else
+enum { EXIT = 93, READ = 63, SAY = 64 };
+__asm__(".globl _start\n_start: call begin\n"
+        ".globl system_call\nsystem_call: mv a7, a0\nmv a0, a1\nmv a1, a2\nmv a2, a3\necall\nret\n");
+#endif
+enum { BUFFER = 65536 };
 
 static long read_some(void *place, long most)
 {
@@ -164,6 +190,32 @@ static void leave(int status)
 }
 
 #endif
+#endif
+
+/* ---- what is said */
+
+/* By subtraction: the smallest processors have no division. */
+static void say_number(uint32_t number)
+{
+    static const uint32_t powers[] = { 1000000000, 100000000, 10000000, 1000000, 100000, 10000, 1000, 100, 10, 1 };
+    char digits[11];
+    int written = 0;
+    for (int at = 0; at < 10; at++) {
+        char digit = '0';
+        for (; number >= powers[at]; number -= powers[at])
+            digit++;
+        if (digit != '0' || written > 0 || at == 9)
+            digits[written++] = digit;
+    }
+    digits[written] = 0;
+    say(digits);
+}
+
+static void refuse(const char *why)
+{
+    say(why);
+    leave(2);
+}
 
 /* ---- what the library needs of a C library */
 

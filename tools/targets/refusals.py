@@ -1,4 +1,4 @@
-"""Shows that retarget.py and shim.py refuse what they don't know, on edits of the proved module: refusals.py MODULE.ll"""
+"""Shows that retarget.py and shim.py refuse what they don't know, on edits of a proved crate's module: refusals.py CRATE MODULE.ll"""
 import re
 import sys
 
@@ -27,10 +27,10 @@ EDITS = {
                                              r"\1  %r900 = getelementptr i8, ptr \2, i64 4\n  %r901 = load i32, ptr %r900, align 4\n"),
     "a pointer that is not aligned to 8": first(r"(load ptr, ptr %r\d+, align )8", r"\g<1>4"),
     "a length at another offset of a slice": first(r"(store ptr %a0, ptr %r1, align 8\n  %r2 = getelementptr i8, ptr %r1, i64 )8", r"\g<1>4"),
-    "a slice of another size": first(r"(define \{ i64, i32 \} @mast_tick.*\nstart:\n.*\n  %r1 = alloca \[)16", r"\g<1>12"),
-    "a length of 32 bits": first(r"(define \{ i64, i32 \} @mast_tick\(ptr noundef %a0, )i64", r"\1i32"),
-    "an answer that comes back in another way": first(r"define \{ i64, i32 \} @mast_tick", "define [3 x i32] @mast_tick"),
-    "an exported function that capi does not have": first(r"(?s)define (\{ i64, i32 \} @mast_)(tick)(.*?\n\}\n)", r"define \1\2\3define \1tock\3"),
+    "a slice of another size": first(r"(define \{ i64, i32 \} @mast_\w+\(.*\nstart:\n.*\n  %r1 = alloca \[)16", r"\g<1>12"),
+    "a length of 32 bits": first(r"(define \{ i64, i32 \} @mast_\w+\(ptr noundef %a0, )i64", r"\1i32"),
+    "an answer that comes back in another way": first(r"define \{ i64, i32 \} @mast_", "define [3 x i32] @mast_"),
+    "an exported function that the crate does not have": first(r"(?s)define (\{ i64, i32 \} @mast_\w+)(\(.*?\n\}\n)", r"define \1\2define \1_too\2"),
     "another attribute of functions": first(r'"target-cpu"="x86-64"', '"target-cpu"="x86-64" "target-features"="+avx"'),
     "another attribute of a parameter": first(r"ptr noundef %a0", "ptr noalias noundef %a0"),
     "a copy whose length is not fixed": first(r"(@llvm\.memmove.*, i64) \d+, i1", r"\1 %r0, i1"),
@@ -73,23 +73,24 @@ def refused(attempt):
 
 
 def main():
-    with open(sys.argv[1]) as file:
+    crate, module = sys.argv[1:]
+    with open(module) as file:
         text = file.read()
-    retargeted(text, LAYOUT, TRIPLE)
-    passed = [what for what, edit in EDITS.items() if not refused(lambda: retargeted(edit(text), LAYOUT, TRIPLE))]
-    if not refused(lambda: retargeted(text, LAYOUT.replace("p:32:32", "p:64:64"), TRIPLE)):
+    retargeted(crate, text, LAYOUT, TRIPLE)
+    passed = [what for what, edit in EDITS.items() if not refused(lambda: retargeted(crate, edit(text), LAYOUT, TRIPLE))]
+    if not refused(lambda: retargeted(crate, text, LAYOUT.replace("p:32:32", "p:64:64"), TRIPLE)):
         passed.append("a processor with pointers of 64 bits")
     source = '#[no_mangle]\npub extern "C" {} {{'
-    passed += [kind for kind in TYPES if not refused(lambda: functions(source.format(f"fn f({kind}) -> u32")))]
+    passed += [kind for kind in TYPES if not refused(lambda: functions("capi", source.format(f"fn f({kind}) -> u32")))]
     exported.fields = lambda name: ([], {"Two": 8, "Five": 20}[name])
-    unmatched = [head for head, form in WRAPPERS.items() if not functions(source.format(head))[0].wrapper().fullmatch(form)]
+    unmatched = [head for head, form in WRAPPERS.items() if not functions("capi", source.format(head))[0].wrapper().fullmatch(form)]
     for what in passed:
         print(f"not refused: {what}")
     for head in unmatched:
         print(f"not known: what rattle makes of {head}")
     if passed or unmatched:
         sys.exit(1)
-    print(f"{len(EDITS) + 1 + len(TYPES)} unknown forms refused, {len(WRAPPERS)} kinds of functions known")
+    print(f"{crate}: {len(EDITS) + 1 + len(TYPES)} unknown forms refused, {len(WRAPPERS)} kinds of functions known")
 
 
 if __name__ == "__main__":

@@ -6,37 +6,15 @@
  */
 #include "mastclover.h"
 #include "processor.h"
+#include "painted.h"
 
 enum { START, CREATE, IDENT, DELETE, OBTAIN, RELEASE, FLUSH, TICK, TASK, KINDS, LEND = 16, WRITE, END };
-enum { GUARD = 64, MOST_BYTES = 12000, MOST_PRIORITIES = 512, STACK = 4096, GUARD_BYTE = 0xA5, SHOWN = 5 };
+enum { GUARD = 64, MOST_BYTES = 12000, MOST_PRIORITIES = 512, GUARD_BYTE = 0xA5, SHOWN = 5 };
 
 static const char *const names[KINDS] = { "mast_start", "mast_create", "mast_ident", "mast_delete", "mast_obtain",
                                           "mast_release", "mast_flush", "mast_tick", "mast_task" };
 
-/* ---- the record and the report */
-
-/* By subtraction: the smallest processors have no division. */
-static void say_number(uint32_t number)
-{
-    static const uint32_t powers[] = { 1000000000, 100000000, 10000000, 1000000, 100000, 10000, 1000, 100, 10, 1 };
-    char digits[11];
-    int written = 0;
-    for (int at = 0; at < 10; at++) {
-        char digit = '0';
-        for (; number >= powers[at]; number -= powers[at])
-            digit++;
-        if (digit != '0' || written > 0 || at == 9)
-            digits[written++] = digit;
-    }
-    digits[written] = 0;
-    say(digits);
-}
-
-static void refuse(const char *why)
-{
-    say(why);
-    leave(2);
-}
+/* ---- the record */
 
 static uint32_t word(void)
 {
@@ -111,10 +89,7 @@ static int guards_hold(void)
 static uint32_t kind, a, b, c, d;
 static uint32_t priorities[MOST_PRIORITIES];
 static mast_answer answer;
-static uint32_t stack[STACK / 4] __attribute__((aligned(16)));
-static uintptr_t called_at;
-static size_t most[KINDS];
-static uint32_t most_counts[KINDS];
+static cost most[KINDS];
 
 static void make_call(void)
 {
@@ -130,25 +105,6 @@ static void make_call(void)
     case TICK: answer = mast_tick(tables, length); break;
     default: answer = mast_task(tables, length, a); break;
     }
-}
-
-static void call_painted(void)
-{
-    size_t left = 0;
-    uint32_t earlier, counts;
-    for (size_t at = 0; at < STACK / 4; at++)
-        stack[at] = 0xA5A5A5A5;
-    earlier = clock();
-    call_on(make_call, stack + STACK / 4);
-    counts = counts_since(earlier);
-    if (counts > most_counts[kind])
-        most_counts[kind] = counts;
-    while (left < STACK / 4 && stack[left] == 0xA5A5A5A5)
-        left++;
-    if (left == 0)
-        refuse("a call took more stack than there is\n");
-    if (called_at - (uintptr_t)(stack + left) > most[kind])
-        most[kind] = called_at - (uintptr_t)(stack + left);
 }
 
 static void say_answer(const char *who, uint32_t status, uint32_t value, uint32_t next, uint32_t bytes)
@@ -174,7 +130,7 @@ static int replay(uint32_t calls)
             priorities[at] = word();
     }
     status = word(), value = word(), next = word(), bytes = word();
-    call_painted();
+    call_painted(make_call, &most[kind]);
     found = sum();
     if (answer.status == status && answer.value == value && answer.next == next && found == bytes && guards_hold())
         return 1;
@@ -189,14 +145,6 @@ static int replay(uint32_t calls)
         say_answer("  found:                           ", answer.status, answer.value, answer.next, found);
     }
     return 0;
-}
-
-static void say_of(const char *what, uint32_t number)
-{
-    say(what);
-    say(" ");
-    say_number(number);
-    say("\n");
 }
 
 __attribute__((used)) void begin(void)
@@ -220,11 +168,7 @@ __attribute__((used)) void begin(void)
     }
     if (word() != calls)
         refuse("the record ends with another number of calls\n");
-    for (int each = 0; each < KINDS; each++)
-        say_of(names[each], most[each]);
-    say_of("counts in loops", counts_in_loops);
-    for (int each = 0; counts_in_loops != 0 && each < KINDS; each++)
-        say_of(names[each] + sizeof "mast", most_counts[each]);
+    say_costs(names, most, KINDS);
     say_number(calls);
     say(" calls, ");
     say_number(differences);

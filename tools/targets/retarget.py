@@ -1,4 +1,4 @@
-"""Turns the proved module, made for x86-64, into one for another processor: retarget.py MODULE.ll EMPTY.ll OUT.ll
+"""Turns the module of a proved crate, made for x86-64, into one for another processor: retarget.py CRATE MODULE.ll EMPTY.ll OUT.ll
 
 EMPTY.ll is an empty program that clang made for the other processor; its triple and data layout are taken over. Every line of the
 module must have a form listed here. These forms mean the same on every processor, sizes and offsets in bytes included; anything
@@ -6,7 +6,7 @@ else stops the build, since nobody has thought about it yet."""
 import re
 import sys
 
-from exported import Unknown, capi
+from exported import Unknown, functions_of
 
 R = r"%[ra]\d+"
 INT = r"i(?:1|8|16|32|64)"
@@ -97,9 +97,9 @@ def without_wrappers(text, functions):
     return text
 
 
-def retargeted(text, layout, triple):
-    """The module for the processor with this layout and triple, the proved functions below the exported ones named capi_NAME."""
-    functions = capi()
+def retargeted(crate, text, layout, triple):
+    """The module for the processor with this layout and triple, the proved functions below the exported ones named CRATE_NAME."""
+    functions = functions_of(crate)
     text = without_wrappers(text, functions)
     check(text)
     if not re.search(r'"e-.*\bp:32:32-', layout):
@@ -108,7 +108,7 @@ def retargeted(text, layout, triple):
         text = re.sub(old, new, text)
     text = text.replace(X86, "attributes #0 = { nounwind optsize }")
     for function in functions:
-        text = text.replace(f'define internal {function.given()} @"capi::{function.name}"', f"define hidden {function.given()} @capi_{function.name}")
+        text = text.replace(f"define internal {function.given()} {function.inner_name()}", f"define hidden {function.given()} @{function.raw_name()}")
     text = re.sub(NAME, lambda name: "@" + name[0][2:-1].replace("::", "."), text)  # as every assembler reads it
     # Each call, and an obtain's step, keeps a frame of its own: taken into the one function that serves them all, they would add up.
     text = re.sub(r"^(define internal .*@(?:calls\.(\w+)\.\2|semaphore\.Semaphore\.take)\(.*\)) #0 \{$", r"\1 noinline #0 {", text, flags=re.M)
@@ -118,12 +118,12 @@ def retargeted(text, layout, triple):
 
 
 def main():
-    module, empty, out = sys.argv[1:]
+    crate, module, empty, out = sys.argv[1:]
     with open(module) as text, open(empty) as other:
         text, other = text.read(), other.read()
     layout, triple = (re.search(rf'^target {word} = ".*"$', other, re.M)[0] for word in ("datalayout", "triple"))
     try:
-        text = retargeted(text, layout, triple)
+        text = retargeted(crate, text, layout, triple)
     except Unknown as unknown:
         sys.exit(f"retarget.py: {module}: {unknown}")
     with open(out, "w") as file:

@@ -1,10 +1,10 @@
-"""Writes the C functions of include/mastclover.h over the proved module's inner functions: shim.py OUT.c"""
+"""Writes the C functions of include/mastclover.h over the inner functions of a proved crate's module: shim.py CRATE OUT.c"""
 import re
 import sys
 
-from exported import Unknown, capi
+from exported import Unknown, functions_of
 
-HEAD = """/* Made by tools/targets/shim.py from crates/capi: the header's functions over the proved module's. */
+HEAD = """/* Made by tools/targets/shim.py from crates/{crate}: the header's functions over the proved module's. */
 #include "mastclover.h"
 
 /* A lent slice as the proved module lays it out on every processor. */
@@ -51,7 +51,7 @@ def shim(function):
             inner.append("uint64_t" if each.kind == "usize" else c_number(each.kind))
             outer.append(f"{c_number(each.kind)} {each.name}")
             passed.append(each.name)
-    raw = f"capi_{function.name}"
+    raw = function.raw_name()
     text = f"\n{'void' if function.answer else given} {raw}({', '.join(inner) or 'void'});\n\n"
     text += f"{given} {function.name}({', '.join(outer) or 'void'})\n{{\n{''.join(slices)}"
     call = f"{raw}({', '.join(passed)});\n"
@@ -63,13 +63,14 @@ def shim(function):
 
 
 def main():
+    crate, path = sys.argv[1:]
     try:
-        found = capi()
+        found = functions_of(crate)
     except Unknown as unknown:
         sys.exit(f"shim.py: {unknown}")
     structs = {each.answer: layout(each) for each in found if each.answer}
-    with open(sys.argv[1], "w") as out:
-        out.write(HEAD + "".join(structs.values()) + "".join(map(shim, found)))
+    with open(path, "w") as out:
+        out.write(HEAD.replace("{crate}", crate) + "".join(structs.values()) + "".join(map(shim, found)))
 
 
 if __name__ == "__main__":

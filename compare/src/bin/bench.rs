@@ -1,12 +1,17 @@
-//! Time per call of the library and of this project's in-place manager, on the same sequences.
+//! Time per call of the library and of this project's in-place manager, on the same sequences; and of the
+//! library's state files, beside its test for 25 on the same tables.
 
+use std::hint::black_box;
 use std::process::ExitCode;
 use std::time::Instant;
 
 use compare::call::{Answer, Call, Manager};
-use compare::ffi::Library;
+use compare::ffi::{self, Library};
 use compare::fuzz::workload::{self, Workload};
 use compare::inplace::agreement::{Tested, Untested};
+use compare::layout::LENGTH;
+use compare::state::LONGEST;
+use compare::status::{INVALID_NAME, SUCCESSFUL};
 
 /// Few enough that most replays of a busy machine are not interrupted.
 const CALLS: usize = 2_000;
@@ -59,6 +64,78 @@ fn measure(workload: &Workload) -> Option<[f64; 3]> {
     Some(best)
 }
 
+/// Nanoseconds of a call, or nothing if an answer is not the one wanted.
+fn timed(wanted: Answer, mut call: impl FnMut() -> Answer) -> Option<f64> {
+    let mut wrong = 0u32;
+    let begun = Instant::now();
+    for _ in 0..CALLS {
+        wrong += u32::from(call() != wanted);
+    }
+    let nanoseconds = begun.elapsed().as_nanos() as f64 / CALLS as f64;
+    (wrong == 0).then_some(nanoseconds)
+}
+
+#[inline(never)]
+fn clear(tables: &mut [u8]) {
+    tables.fill(0);
+    black_box(tables);
+}
+
+/// The best times of the test for 25 alone, a save and a load, or nothing if an answer is wrong.
+fn measure_state(tables: &[u8]) -> Option<[f64; 3]> {
+    // An ident of name 0 is refused right after the test.
+    let tested = ffi::ident(tables, 0);
+    let mut file = vec![0; LONGEST];
+    let saved = ffi::save(tables, &mut file);
+    file.truncate(saved.value as usize);
+    let mut loaded = vec![0; LENGTH];
+    let started = ffi::load(&mut loaded, &file);
+    let statuses = [tested.status, saved.status, started.status];
+    if statuses != [INVALID_NAME, SUCCESSFUL, SUCCESSFUL] || loaded != tables {
+        return None;
+    }
+    let mut best = [f64::INFINITY; 4];
+    for _ in 0..ROUNDS {
+        let loads = timed(started, || {
+            clear(&mut loaded);
+            ffi::load(&mut loaded, &file)
+        })?;
+        let clears = timed(started, || {
+            clear(&mut loaded);
+            started
+        })?;
+        let saves = timed(saved, || ffi::save(tables, &mut file))?;
+        let tests = timed(tested, || ffi::ident(tables, 0))?;
+        for (best, time) in best.iter_mut().zip([tests, saves, loads, clears]) {
+            *best = best.min(time);
+        }
+    }
+    let [tests, saves, loads, clears] = best;
+    Some([tests, saves, loads - clears])
+}
+
+/// The table of state files; false if an answer is wrong.
+fn show_state() -> bool {
+    println!();
+    println!("state files, nanoseconds per call, {CALLS} calls, best of {ROUNDS}, goal at most 2.0 of the test");
+    println!("for 25; the tables are cleared before each load, which is measured alone and taken off");
+    println!(
+        "{:<34} {:>9} {:>9} {:>9} {:>9} {:>9}",
+        "", "test 25", "save", "load", "save/25", "load/25"
+    );
+    let Some([test, save, load]) = measure_state(&workload::queues()) else {
+        println!("state files: the answers are wrong; run compare_state");
+        return false;
+    };
+    println!(
+        "{:<34} {test:>9.1} {save:>9.1} {load:>9.1} {:>9.2} {:>9.2}",
+        "32 tasks, 64 live slots, queues",
+        save / test,
+        load / test
+    );
+    true
+}
+
 fn main() -> ExitCode {
     println!("nanoseconds per call, {CALLS} calls, best of {ROUNDS}");
     println!(
@@ -77,5 +154,5 @@ fn main() -> ExitCode {
             library / untested
         );
     }
-    ExitCode::SUCCESS
+    ExitCode::from(u8::from(!show_state()))
 }

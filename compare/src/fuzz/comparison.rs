@@ -82,7 +82,8 @@ impl<'a> Comparison<'a> {
     }
 }
 
-fn memory_difference(lent: &Lent, expected: &[u8]) -> Option<String> {
+/// What of lent memory is not as expected, if anything.
+pub fn memory_difference(lent: &Lent, expected: &[u8]) -> Option<String> {
     if !lent.guards_hold() {
         return Some("bytes outside the lent memory were written".into());
     }

@@ -33,7 +33,7 @@ pub fn run(comparison: &mut Comparison, seed: u64) -> Result<Machine, Box<Differ
 }
 
 /// Writes numbers near their ends into tables, which still agree afterwards.
-fn edit(rng: &mut Rng, machine: &Machine, bytes: &mut [u8]) {
+pub fn edit(rng: &mut Rng, machine: &Machine, bytes: &mut [u8]) {
     if machine.tasks.is_empty() {
         return;
     }

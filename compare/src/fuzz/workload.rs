@@ -38,6 +38,25 @@ pub fn session_of_ticks(calls: usize) -> Vec<Call> {
     session
 }
 
+/// Tables of 32 tasks and 64 live slots, 30 of the tasks in nine queues of all kinds.
+pub fn queues() -> Vec<u8> {
+    let priorities = (0..32).map(|task| 1 + task % 7).collect();
+    let mut calls = vec![Call::Start { slots: 64, priorities }];
+    for slot in 0..64 {
+        let attributes = [0, 4, 16, 20, 32, 36][slot as usize % 6];
+        calls.push(Call::Create { caller: 32, name: 1 + slot % 10, count: 0, attributes });
+    }
+    for task in 1..=30 {
+        let id = 65536 + 1 + 7 * (task % 9);
+        calls.push(Call::Obtain { caller: task, id, options: 0, timeout: task });
+    }
+    let mut machine = Machine::default();
+    for call in &calls {
+        machine.call(call);
+    }
+    layout::write(&machine)
+}
+
 fn record(
     name: &'static str,
     slots: u32,

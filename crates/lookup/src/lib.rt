@@ -32,7 +32,7 @@ pub fn next_task(m: &[u8]) -> u32
 }
 
 // Where task q stands in the list of tasks, which is counted from 0.
-fn index_of(q: u32) -> u32
+pub fn index_of(q: u32) -> u32
     ensures { λ r. ⌜ r ≡ pred q ⌝ }
 {
     if q == 0 {

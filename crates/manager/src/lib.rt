@@ -7,7 +7,8 @@ ghost use mathlib.Core.List.{[]};
 ghost use Rattle.rules.specs.declared.Call.the-variants.{Start, Create, Ident, Delete, Obtain, Release, Flush, Tick};
 ghost use Rattle.manager.specs.Entry.{Replied, noNext, replyTo, taskReply};
 
-fn internal_error() -> Answer
+// What tables that do not agree are answered.
+pub fn internal_error() -> Answer
     ensures { λ r. ⌜ r ≡ noNext ⌝ }
 {
     Answer {

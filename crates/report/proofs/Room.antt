@@ -18,13 +18,13 @@ use Rattle.report.specs.Report.{reportText, reportRoom, Report, Printabl
 use Rattle.report.specs.Report.{serialYes, serialNo, serialOpen, isSerial}
 use Rattle.report.proofs.Printing.{openAt, open-rows, open-none, localsAt, placeAt}
 
-digits : (n : ℕ) → length (decimal n) ≤ 10
+pub digits : (n : ℕ) → length (decimal n) ≤ 10
 digits n = omega (arith, decimal-length n 0, length-append (decimal n) (0 ∷ []))
 
 pair-room : (a b : ℕ) → length (pairText a b) ≤ 22
 pair-room a b = omega (arith, length-append (32 ∷ decimal a) (58 ∷ decimal b), digits a, digits b)
 
-spaced-room : (ns : List ℕ) → length (spaced ns) ≤ 11 * length ns
+pub spaced-room : (ns : List ℕ) → length (spaced ns) ≤ 11 * length ns
 unfolding spaced
 spaced-room [] = omega arith
 spaced-room (n ∷ ns) = omega (arith, length-append (32 ∷ decimal n) (spaced ns), digits n, spaced-room ns)
@@ -43,7 +43,7 @@ pairs-room : (word ns : List ℕ) → length (pairsText word ns) ≡ length word
 unfolding pairsText
 pairs-room word ns = omega (arith, length-append (word ++ paired ns) (10 ∷ []), length-append word (paired ns))
 
-rows-room : (k n : ℕ) (f : ℕ → List ℕ) → ((i : ℕ) → length (f i) ≤ k) → length (rows (tabulate n f)) ≤ k * n
+pub rows-room : (k n : ℕ) (f : ℕ → List ℕ) → ((i : ℕ) → length (f i) ≤ k) → length (rows (tabulate n f)) ≤ k * n
 unfolding rows tabulate
 rows-room k zero f h = omega (arith, mul-zero k)
 rows-room k (suc n) f h =

@@ -78,7 +78,7 @@ front-written xs out w r written =
 
 -- ---- rows, one after another
 
-next-row : (i : ℕ) (f : ℕ → List ℕ) → rows (tabulate (suc i) f) ≡ rows (tabulate i f) ++ f i
+pub next-row : (i : ℕ) (f : ℕ → List ℕ) → rows (tabulate (suc i) f) ≡ rows (tabulate i f) ++ f i
 unfolding rows tabulate
 next-row zero f = append-nil (f zero)
 next-row (suc i) f =

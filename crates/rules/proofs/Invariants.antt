@@ -16,3 +16,4 @@ pub mod Ending
 pub mod Obtaining
 pub mod Releasing
 pub mod Kept
+pub mod Standing

@@ -43,6 +43,10 @@ timeout = 6
 abbrev pub objectWasDeleted : ℕ
 objectWasDeleted = 7
 
+-- request 2: of the state file alone
+abbrev pub invalidSize : ℕ
+invalidSize = 8
+
 abbrev pub invalidNumber : ℕ
 invalidNumber = 10
 

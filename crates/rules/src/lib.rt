@@ -21,6 +21,8 @@ pub const TIMEOUT: u32 = 6;
 
 pub const OBJECT_WAS_DELETED: u32 = 7;
 
+pub const INVALID_SIZE: u32 = 8;
+
 pub const INVALID_NUMBER: u32 = 10;
 
 pub const NOT_DEFINED: u32 = 11;

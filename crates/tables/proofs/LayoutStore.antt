@@ -3,23 +3,27 @@ use mathlib.Core.Path.{_≡_, refl, sym, ap, ap₂, _∙_}
 use mathlib.Core.List.{List, [], _∷_, _++_}
 use Prim.Native.Nat.{ℕ, suc, pred, _+_, _-_, _*_, _≤_, _<_}
 use native.Mathlib.Omega.{arith}
-use lib.ListN.{length, getD, set, take, replicate, length-set, length-append, length-replicate}
-use lib.Seq.{sets, ext-getD, length-take-le, take-length}
+use lib.ListN.{length, getD, set, take, drop, replicate, length-set, length-append, length-replicate}
+use lib.Seq.{sets, length-sets, sets-eq, set-getD, ext-getD, length-take-le, take-length}
 use Rattle.laws.specs.Rows.{fit, tabulate}
 use Rattle.laws.proofs.Fit.{length-fit, fit-none, fit-all, getD-same, set-fit, fit-replicate, set-fit-next, set-fit-end, set-fit-last}
+use Rattle.laws.proofs.Fit.{sets-left, sets-right}
 use Rattle.words.specs.Words.{bytesOfWord, bytesOf, wordAt}
-use Rattle.words.proofs.WordsInBytes.{Bytes, sets-bytesOf, bytesOf-zeros}
+use Rattle.words.proofs.WordsInBytes.{Bytes, length-bytesOf, sets-bytesOf, bytesOf-zeros}
 use Rattle.rules.specs.declared.Task.{Task}
 use Rattle.rules.specs.Machine.{Slot, Tables, unstarted, withTasks, withSlots, withReady, noTask, freeSlot}
+use Rattle.rules.specs.Semaphore.{requeued}
 use Rattle.rules.specs.Calls.{upTo}
 use Rattle.semaphore.specs.declared.Semaphore.{Semaphore}
 use Rattle.semaphore.specs.Record.{slotFrom, Padded}
+use Rattle.tables.specs.declared.Head.{Head}
 use Rattle.tables.specs.Codec.{taskRow, slotRow, recordRow}
-use Rattle.tables.specs.Layout.{tablesLength, taskPlace, slotPlace, readyPlace, sequencePlace, layout, laid}
+use Rattle.tables.specs.Layout.{tablesLength, taskPlace, slotPlace, readyPlace, sequencePlace, layout, laid, recordAt, slotWith, queueOf}
 use Rattle.tables.proofs.LayoutWords.{words, taskPlaces, slotPlaces, sequenceRow, tasks-long, slots-long, length-words, set-task, set-slot, set-row}
 use Rattle.tables.proofs.LayoutWords.{no-slot-word, length-layout, length-slotRow, task-word, slot-word, ready-word, sequence-word}
 use Rattle.tables.proofs.LayoutWords.{by-place}
-use Rattle.tables.proofs.LayoutRead.{laid-words, ready-laid}
+use Rattle.tables.proofs.LayoutRead.{length-laid, laid-words, record-laid, ready-laid}
+use Rattle.tables.proofs.LoadStore.{headRow}
 
 -- a row stored in the bytes is stored in the words
 store-words : (t : Tables) (k : ℕ) (r : List ℕ) → k + length r ≤ 2723 → sets (laid t) (4 * k) (bytesOf r) ≡ bytesOf (sets (layout t) k r)
@@ -57,6 +61,98 @@ pub store-slot-laid : (t : Tables) (i : ℕ) (s : Semaphore) → i < 64 → i < 
     → sets (laid t) (4 * slotPlace i) (bytesOf (recordRow s)) ≡ laid (withSlots t (set (t .slots) i (slotFrom s)))
 store-slot-laid t i s l h p =
     ap (λ (r : List ℕ). sets (laid t) (4 * slotPlace i) (bytesOf r)) (record-row s p) ∙ store-slot-row t i (slotFrom s) l h
+
+-- ---- a part of a slot's row: the words before its queue, and one waiter more
+
+-- a run of stores over a part of another
+sets-over : (xs : List ℕ) (i : ℕ) (us : List ℕ) (k : ℕ) (vs : List ℕ) → i + length us ≤ length xs → k + length vs ≤ length us
+    → sets (sets xs i us) (i + k) vs ≡ sets xs i (sets us k vs)
+sets-over xs i us k vs h b =
+    let front : length (take i xs) ≡ i = length-take-le i xs (omega arith) in
+    let same : length (sets us k vs) ≡ length us = length-sets us k vs in
+    ap₂ (λ (x : List ℕ) (j : ℕ). sets x (j + k) vs) (sets-eq us xs i h) (sym front)
+    ∙ sets-left (take i xs ++ us) (drop (i + length us) xs) (length (take i xs) + k) vs (omega (arith, length-append (take i xs) us))
+    ∙ ap₂ (λ (x : List ℕ) (n : ℕ). x ++ drop (i + n) xs) (sets-right (take i xs) us k vs) (sym same)
+    ∙ sym (sets-eq (sets us k vs) xs i (omega arith))
+
+module _ (t : Tables) (i : ℕ) (l : i < 64) (h : i < length (t .slots)) where
+  abbrev slot : Slot
+  slot = getD (t .slots) i (freeSlot 0)
+
+  abbrev stored : List ℕ → List ℕ
+  stored row = sets (laid t) (4 * slotPlace i) (bytesOf row)
+
+  -- its own row changes nothing
+  own-stored : laid t ≡ stored (slotRow slot)
+  own-stored = sym (store-slot-row t i slot l h ∙ ap (λ (ss : List Slot). laid (withSlots t ss)) (set-getD (t .slots) i (freeSlot 0)))
+
+  part-stored : (p k : ℕ) (row vs : List ℕ) → p ≡ slotPlace i + k → length row ≡ 40 → k + length vs ≤ 40
+      → sets (stored row) (4 * p) (bytesOf vs) ≡ stored (sets row k vs)
+  part-stored p k row vs e n b =
+      let place : 4 * p ≡ 4 * slotPlace i + 4 * k = omega (arith, e) in
+      ap (λ (j : ℕ). sets (stored row) j (bytesOf vs)) place
+      ∙ sets-over (laid t) (4 * slotPlace i) (bytesOf row) (4 * k) (bytesOf vs) (omega (arith, length-laid t, length-bytesOf row))
+      (omega (arith, length-bytesOf row, length-bytesOf vs))
+      ∙ ap (λ (x : List ℕ). sets (laid t) (4 * slotPlace i) x) (sets-bytesOf row k vs (omega arith))
+
+  head-row : (s : Head) → s .waiters ≡ length (slot .queue) → sets (slotRow slot) 0 (headRow s) ≡ slotRow (slotWith s (slot .queue))
+  head-row s w =
+      ap (λ (n : ℕ). s .generation ∷ s .live ∷ s .name ∷ s .attributes ∷ s .count ∷ s .owner ∷ s .nest ∷ n ∷ fit 32 0 (slot .queue)) w
+
+  head-laid : (s : Head) → s .waiters ≡ length (slot .queue)
+      → sets (laid t) (4 * slotPlace i) (bytesOf (headRow s)) ≡ laid (withSlots t (set (t .slots) i (slotWith s (slot .queue))))
+  head-laid s w =
+      ap (λ (x : List ℕ). sets x (4 * slotPlace i) (bytesOf (headRow s))) own-stored
+      ∙ part-stored (slotPlace i) 0 (slotRow slot) (headRow s) (omega arith) (length-slotRow slot) (omega arith)
+      ∙ ap stored (head-row s w)
+      ∙ store-slot-row t i (slotWith s (slot .queue)) l h
+
+  -- a number behind the last of the queue, and then the length
+  waiter-row : (q : ℕ) → length (slot .queue) < 32
+      → sets (sets (slotRow slot) (8 + length (slot .queue)) (q ∷ [])) 7 ((length (slot .queue) + 1) ∷ []) ≡ slotRow (requeued slot (slot .queue ++ q ∷ []))
+  waiter-row q few =
+      let place : 8 + length (slot .queue) ≡ suc (suc (suc (suc (suc (suc (suc (suc (length (slot .queue))))))))) = omega arith in
+      let count : length (slot .queue) + 1 ≡ length (slot .queue ++ q ∷ []) = sym (length-append (slot .queue) (q ∷ [])) in
+      ap (λ (k : ℕ). sets (sets (slotRow slot) k (q ∷ [])) 7 ((length (slot .queue) + 1) ∷ [])) place
+      ∙ ap₂ (λ (n : ℕ) (x : List ℕ). slot .generation ∷ slot .live ∷ slot .name ∷ slot .attributes ∷ slot .count ∷ slot .owner ∷ slot .nest ∷ n ∷ x) count
+      (set-fit-end 32 0 (slot .queue) q few)
+
+  waiter-laid : (p r n q : ℕ) → length (slot .queue) < 32 → n ≡ length (slot .queue) → p ≡ slotPlace i + (8 + n) → r ≡ slotPlace i + 7
+      → sets (sets (laid t) (4 * p) (bytesOfWord q)) (4 * r) (bytesOfWord (n + 1))
+      ≡ laid (withSlots t (set (t .slots) i (requeued slot (slot .queue ++ q ∷ []))))
+  unfolding bytesOf
+  waiter-laid p r n q few c ep er =
+      let row : List ℕ = sets (slotRow slot) (8 + n) (q ∷ []) in
+      ap (λ (x : List ℕ). sets (sets x (4 * p) (bytesOfWord q)) (4 * r) (bytesOfWord (n + 1))) own-stored
+      ∙ ap (λ (x : List ℕ). sets x (4 * r) (bytesOfWord (n + 1))) (part-stored p (8 + n) (slotRow slot) (q ∷ []) ep (length-slotRow slot) (omega arith))
+      ∙ part-stored r 7 row ((n + 1) ∷ []) er (length-sets (slotRow slot) (8 + n) (q ∷ []) ∙ length-slotRow slot) (omega arith)
+      ∙ ap (λ (j : ℕ). stored (sets (sets (slotRow slot) (8 + j) (q ∷ [])) 7 ((j + 1) ∷ []))) c
+      ∙ ap stored (waiter-row q few)
+      ∙ store-slot-row t i (requeued slot (slot .queue ++ q ∷ [])) l h
+
+-- what the stores make of bytes that are laid
+pub head-stored : (m m₁ : List ℕ) (i : ℕ) (s : Head) → i < 64 → m₁ ≡ sets m (4 * slotPlace i) (bytesOf (headRow s))
+    → (t : Tables) → m ≡ laid t → i < length (t .slots) → s .waiters ≡ length (queueOf t i)
+    → m₁ ≡ laid (withSlots t (set (t .slots) i (slotWith s (queueOf t i))))
+head-stored m m₁ i s l w t e h n = w ∙ ap (λ (x : List ℕ). sets x (4 * slotPlace i) (bytesOf (headRow s))) e ∙ head-laid t i l h s n
+
+-- by the number of waiters that is read from them
+module _ (m : List ℕ) (i q waiters : ℕ) (l : i < 64) (b : Bytes m) (c : waiters ≡ recordAt m i .waiters) (t : Tables) (e : m ≡ laid t)
+    (h : i < length (t .slots)) (few : length (queueOf t i) < 32) where
+  waiting : waiters ≡ length (queueOf t i)
+  waiting = c ∙ ap (λ (x : List ℕ). recordAt x i .waiters) e ∙ ap (λ (s : Semaphore). s .waiters) (record-laid t (laid-words t (rw e at b)) i l)
+
+  pub queue-full : 32 ≤ waiters → m ≡ laid (withSlots t (set (t .slots) i (requeued (getD (t .slots) i (freeSlot 0)) (queueOf t i ++ q ∷ []))))
+  queue-full o = absurd (omega (arith, waiting))
+
+  pub waiter-added : (m₁ m₂ : List ℕ) → m₁ ≡ sets m (4 * (slotPlace i + 8 + waiters)) (bytesOfWord q)
+      → m₂ ≡ sets m₁ (4 * (slotPlace i + 7)) (bytesOfWord (waiters + 1))
+      → m₂ ≡ laid (withSlots t (set (t .slots) i (requeued (getD (t .slots) i (freeSlot 0)) (queueOf t i ++ q ∷ []))))
+  waiter-added m₁ m₂ w₁ w₂ =
+      w₂
+      ∙ ap (λ (x : List ℕ). sets x (4 * (slotPlace i + 7)) (bytesOfWord (waiters + 1)))
+      (w₁ ∙ ap (λ (x : List ℕ). sets x (4 * (slotPlace i + 8 + waiters)) (bytesOfWord q)) e)
+      ∙ waiter-laid t i l h (slotPlace i + 8 + waiters) (slotPlace i + 7) waiters q few waiting (omega arith) refl
 
 -- ---- the sequence of ready tasks
 
@@ -159,6 +255,11 @@ laid-unstarted = ap bytesOf zeros ∙ bytesOf-zeros 2723
     zeros =
         ext-getD 0 (layout unstarted) (replicate 2723 0) (length-layout unstarted ∙ sym (length-replicate {A = ℕ} 2723 0))
         (λ k l. zero-word k (omega (arith, length-layout unstarted)) ∙ sym (getD-same 2723 0 k))
+
+pub zeros-laid : (m : List ℕ) → length m ≡ tablesLength → ((k : ℕ) → k < tablesLength → getD m k 0 ≡ 0) → m ≡ laid unstarted
+zeros-laid m e h =
+    ext-getD 0 m (replicate tablesLength 0) (e ∙ sym (length-replicate {A = ℕ} tablesLength 0)) (λ k l. h k (omega arith) ∙ sym (getD-same tablesLength 0 k))
+    ∙ sym laid-unstarted
 
 -- tables with m slots, all free
 abbrev pub allFree : ℕ → List Task → List ℕ → Tables

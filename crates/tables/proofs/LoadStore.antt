@@ -21,19 +21,19 @@ use Rattle.tables.specs.Layout.{tablesLength, taskPlace, slotPlace, read
 
 -- ---- a slot, stored as its eight words and then its queue
 
--- the words of a record before its queue
-abbrev pub headRow : Semaphore → List ℕ
+-- the words of a slot before its queue
+abbrev pub headRow : Head → List ℕ
 headRow s = s .generation ∷ s .live ∷ s .name ∷ s .attributes ∷ s .count ∷ s .owner ∷ s .nest ∷ s .waiters ∷ []
 
-pub slot-stored : (m m₁ m₂ : List ℕ) (at : ℕ) (s : Semaphore) → m₁ ≡ sets m (4 * at) (bytesOf (headRow s))
+pub slot-stored : (m m₁ m₂ : List ℕ) (at : ℕ) (s : Semaphore) → m₁ ≡ sets m (4 * at) (bytesOf (headRow (headOf s)))
     → m₂ ≡ sets m₁ (4 * (at + 8)) (bytesOf (s .queue)) → m₂ ≡ sets m (4 * at) (bytesOf (recordRow s))
 unfolding bytesOf
 slot-stored m m₁ m₂ at s e₁ e₂ =
     let p : 4 * (at + 8) ≡ 4 * at + 32 = omega arith in
     e₂
     ∙ ap (λ (l : List ℕ). sets l (4 * (at + 8)) (bytesOf (s .queue))) e₁
-    ∙ ap (λ (n : ℕ). sets (sets m (4 * at) (bytesOf (headRow s))) n (bytesOf (s .queue))) p
-    ∙ sets-join m (4 * at) (bytesOf (headRow s)) (bytesOf (s .queue))
+    ∙ ap (λ (n : ℕ). sets (sets m (4 * at) (bytesOf (headRow (headOf s)))) n (bytesOf (s .queue))) p
+    ∙ sets-join m (4 * at) (bytesOf (headRow (headOf s))) (bytesOf (s .queue))
 
 -- ---- a record, loaded word by word
 

@@ -5,7 +5,7 @@ use mathlib.Core.Bool.{Bool}
 use mathlib.Core.List.{List, [], _∷_, _++_, map}
 use Prim.Native.Nat.{ℕ, _+_, _*_}
 use lib.Dec.{leb, eqb}
-use lib.ListN.{length, take}
+use lib.ListN.{length, getD, take}
 use Rattle.laws.specs.Choose.{_and_}
 use Rattle.laws.specs.All.{all}
 use Rattle.laws.specs.Rows.{fit, tabulate, rows}
@@ -90,6 +90,10 @@ slotWith s queue =
       nest = s .nest;
       queue = queue;
     }
+
+-- the queue of slot i, counted from 0
+abbrev pub queueOf : Tables → ℕ → List ℕ
+queueOf t i = getD (t .slots) i (freeSlot 0) .queue
 
 unfoldable pub modelOf : List ℕ → Tables
 modelOf bs =

@@ -7,9 +7,10 @@ ghost use mathlib.Core.List.{[], _∷_, _++_};
 ghost use lib.ListN.{length, getD, set, take};
 ghost use lib.Seq.{sets};
 ghost use Rattle.words.specs.Words.{bytesOf, wordAt};
-ghost use Rattle.rules.specs.Machine.{Tables, withReady};
+ghost use Rattle.rules.specs.Machine.{Tables, freeSlot, withSlots, withReady};
+ghost use Rattle.rules.specs.Semaphore.{requeued};
 ghost use Rattle.tables.specs.Codec.{taskRow, recordRow};
-ghost use Rattle.tables.specs.Layout.{tablesLength, taskPlace, slotPlace, readyPlace, laid, taskAt, headOf, recordAt, sequenceAt};
+ghost use Rattle.tables.specs.Layout.{tablesLength, taskPlace, slotPlace, readyPlace, laid, taskAt, headOf, slotWith, queueOf, recordAt, sequenceAt};
 ghost use Rattle.tables.specs.Layout.{isQueueLaid, isSequenceLaid, isLaid};
 ghost use Rattle.laws.specs.All.{all};
 
@@ -229,6 +230,40 @@ pub fn store_slot(m: &mut [u8], i: usize, s: Semaphore)
     words::set_words(m, at, &row);
     let queue = s.queue;
     words::set_words(m, at + QUEUE, &queue);
+}
+
+// The words of a slot before its queue, which stays and is as long as they say.
+pub fn store_head(m: &mut [u8], i: usize, s: Head)
+    requires { ⌜ (length (now m) ≡ tablesLength) × (i < 64) ⌝ }
+    ensures { λ _. ⌜ ((t : Tables) → now (m .entry) ≡ laid t → i < length (t .slots) → s .waiters ≡ length (queueOf t i)
+        → now (m .exit) ≡ laid (withSlots t (set (t .slots) i (slotWith s (queueOf t i))))) ⌝ }
+{
+    let row = [
+        s.generation,
+        s.live,
+        s.name,
+        s.attributes,
+        s.count,
+        s.owner,
+        s.nest,
+        s.waiters,
+    ];
+    words::set_words(m, SLOTS_AT + SLOT_WORDS * i, &row);
+}
+
+// One waiter more, at the end of a slot's queue.
+pub fn add_waiter(m: &mut [u8], i: usize, q: u32)
+    requires { ⌜ (length (now m) ≡ tablesLength) × (i < 64) ⌝ }
+    ensures { λ _. ⌜ ((t : Tables) → now (m .entry) ≡ laid t → i < length (t .slots) → length (queueOf t i) < 32
+        → now (m .exit) ≡ laid (withSlots t (set (t .slots) i (requeued (getD (t .slots) i (freeSlot 0)) (queueOf t i ++ q ∷ []))))) ⌝ }
+{
+    let waiters = slot_waiters(m, i);
+    if rules::MAX_TASKS <= waiters {
+        return;
+    }
+    let at = SLOTS_AT + SLOT_WORDS * i;
+    words::set_word(m, at + QUEUE + waiters as usize, q);
+    words::set_word(m, at + WAITERS, waiters + 1);
 }
 
 // How many tasks are ready.

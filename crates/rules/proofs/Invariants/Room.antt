@@ -23,11 +23,11 @@ use Rattle.rules.proofs.Invariants.Links.{waits-there, once, nowhere}
 use Rattle.rules.proofs.Invariants.PartsKept.{below, waits-outside}
 
 -- how many entries are of 1..n
-counts : ℕ → List ℕ → ℕ
+pub counts : ℕ → List ℕ → ℕ
 counts zero xs = 0
 counts (suc n) xs = counts n xs + occurs (suc n) xs
 
-counts-none : (n : ℕ) → counts n [] ≡ 0
+pub counts-none : (n : ℕ) → counts n [] ≡ 0
 unfolding counts
 counts-none zero = refl
 counts-none (suc n) = omega (arith, counts-none n, occurs-none (suc n))
@@ -51,7 +51,7 @@ inside (suc n) x xs l h =
     ]
 
 -- every entry is of 1..n, so the counts are the length
-counts-all : (n : ℕ) (xs : List ℕ) → ((k : ℕ) → k < length xs → (1 ≤ getD xs k 0) × (getD xs k 0 ≤ n)) → counts n xs ≡ length xs
+pub counts-all : (n : ℕ) (xs : List ℕ) → ((k : ℕ) → k < length xs → (1 ≤ getD xs k 0) × (getD xs k 0 ≤ n)) → counts n xs ≡ length xs
 counts-all n [] f = counts-none n
 counts-all n (x ∷ xs) f =
     let h = f 0 (omega arith) in
@@ -72,7 +72,13 @@ counts-fewer (suc n) i xs f h e =
       | no d ↦ omega (arith, counts-fewer n i xs f (omega arith) e, f n)
     ]
 
-counts-append : (n : ℕ) (xs ys : List ℕ) → counts n (xs ++ ys) ≡ counts n xs + counts n ys
+-- each task once, so n
+pub counts-each : (n : ℕ) (xs : List ℕ) → ((q : ℕ) → q < n → occurs (suc q) xs ≡ 1) → counts n xs ≡ n
+unfolding counts
+counts-each zero xs f = refl
+counts-each (suc n) xs f = omega (arith, counts-each n xs (λ q h. f q (omega arith)), f n (omega arith))
+
+pub counts-append : (n : ℕ) (xs ys : List ℕ) → counts n (xs ++ ys) ≡ counts n xs + counts n ys
 unfolding counts
 counts-append zero xs ys = refl
 counts-append (suc n) xs ys = omega (arith, counts-append n xs ys, occurs-append (suc n) xs ys)

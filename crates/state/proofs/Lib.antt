@@ -1,0 +1,16 @@
+pub mod File
+pub mod Stands
+pub mod Round
+pub mod Shape
+pub mod Held
+pub mod Exact
+pub mod Promises
+pub mod Lengths
+pub mod Written
+pub mod Filling
+pub mod Taken
+pub mod Answered
+pub mod Entry
+pub mod Loading
+pub mod FromLoad
+pub mod Worked

@@ -1,0 +1,4 @@
+pub mod File
+pub mod Reading
+pub mod Reply
+pub mod Shape
