@@ -1,7 +1,8 @@
 """Every `pub fn` of the libraries has an `ensures` that says something, and no entry point on lent tables has a `requires`.
 
 Entry points are the public functions of the crates named in ENTRIES, outside of their private modules, and every
-`extern "C"` function. An `ensures` says nothing if it speaks of the result alone, as `r ≡ r`, or if each of its parts is an equation with the same two sides.
+`extern "C"` function. An `ensures` says nothing if it speaks of the result alone, as `r ≡ r`, or if each of its parts is
+an equation with the same two sides.
 """
 import pathlib
 import re

@@ -12,9 +12,6 @@ ghost use Rattle.tables.specs.Layout.{tablesLength, laid, modelOf};
 ghost use Rattle.tables.specs.Sizes.{Sized};
 ghost use Rattle.state.specs.Reply.{Replied, saveReply, loadReply};
 
-// No file is longer: 32 tasks and 64 slots.
-pub const LONGEST_FILE: usize = 2744;
-
 // An answer with the next task as the tables are.
 fn answer(m: &[u8], status: u32, value: u32) -> Answer
     requires { ⌜ Sized (now m) ⌝ }
