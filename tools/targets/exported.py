@@ -10,6 +10,8 @@ CRATES = ("capi", "capi_state")
 WIDTHS = {"u8": 1, "u16": 2, "u32": 4, "u64": 8}
 FUNCTION = re.compile(r'pub\s+extern\s+"C"\s+fn\s+(\w+)\s*\((.*?)\)\s*(?:->\s*(\w+)\s*)?(?:requires|ensures|\{)', re.S)
 SLICE = re.compile(r"&(mut )?\[(\w+)\]")
+# A number that the function writes for its caller, by a pointer of its own.
+PLACE = "&mut u32"
 NUMBERS = {"u32": "i32", "u64": "i64"}
 
 
@@ -38,9 +40,9 @@ def fields(name):
 class Parameter:
     def __init__(self, name, kind):
         self.name, self.kind, self.slice = name, kind, SLICE.fullmatch(kind)
-        if self.slice and self.slice[2] not in WIDTHS or not self.slice and kind not in (*NUMBERS, "usize"):
+        if self.slice and self.slice[2] not in WIDTHS or not self.slice and kind not in (*NUMBERS, "usize", PLACE):
             raise Unknown(f"parameter {name} has type {kind}, which the shim does not know")
-        self.inner = "ptr" if self.slice else NUMBERS.get(kind, "i64")
+        self.inner = "ptr" if self.slice or kind == PLACE else NUMBERS.get(kind, "i64")
 
 
 class Function:

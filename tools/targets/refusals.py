@@ -1,8 +1,10 @@
-"""Shows that retarget.py and shim.py refuse what they don't know, on edits of a proved crate's module: refusals.py CRATE MODULE.ll"""
+"""Shows that retarget.py and shim.py refuse what they don't know, on edits of a proved crate's module, and that alignment.py says no more
+than it can know: refusals.py CRATE MODULE.ll"""
 import re
 import sys
 
 import exported
+from alignment import aligned
 from exported import Unknown, functions
 from retarget import retargeted
 
@@ -56,12 +58,42 @@ WRAPPERS = {
         "define noundef ptr @f(ptr noundef %a0, i32 noundef %a1, ptr noundef %a2, i64 noundef %a3) #0 {\nstart:\n  %r0 = alloca [16 x i8], align 8\n"
         "  store ptr %a2, ptr %r0, align 8\n  %r1 = getelementptr i8, ptr %r0, i64 8\n  store i64 %a3, ptr %r1, align 8\n"
         "  call void @\"capi::f\"(ptr %a0, i32 %a1, ptr %r0)\n  ret ptr %a0\n}\n",
+    "fn f(t: &[u8], a: u32, out: &mut u32) -> Three":
+        "define { i64, i32 } @f(ptr noundef %a0, i64 noundef %a1, i32 noundef %a2, ptr noundef %a3) #0 {\nstart:\n  %r0 = alloca [16 x i8], align 4\n"
+        "  %r1 = alloca [16 x i8], align 8\n  store ptr %a0, ptr %r1, align 8\n  %r2 = getelementptr i8, ptr %r1, i64 8\n"
+        "  store i64 %a1, ptr %r2, align 8\n  call void @\"capi::f\"(ptr %r0, ptr %r1, i32 %a2, ptr %a3)\n"
+        "  %r3 = load { i64, i32 }, ptr %r0, align 4\n  ret { i64, i32 } %r3\n}\n",
     "fn f(a: u32, t: &[u8]) -> Two":
         "define i64 @f(i32 noundef %a0, ptr noundef %a1, i64 noundef %a2) #0 {\nstart:\n  %r0 = alloca [8 x i8], align 4\n  %r1 = alloca [16 x i8], align 8\n"
         "  store ptr %a1, ptr %r1, align 8\n  %r2 = getelementptr i8, ptr %r1, i64 8\n  store i64 %a2, ptr %r2, align 8\n"
         "  call void @\"capi::f\"(ptr %r0, i32 %a0, ptr %r1)\n  %r3 = load i64, ptr %r0, align 4\n  ret i64 %r3\n}\n",
 }
-TYPES = ["a: bool", "a: &u32", "a: &[usize]", "a: &mut [Task]", "a: [u8; 4]", "a: u8"]
+TYPES = ["a: bool", "a: &u32", "a: &mut u64", "a: &[usize]", "a: &mut [Task]", "a: [u8; 4]", "a: u8"]
+
+# An exported function, whose number's place the shim aligns to 4, and one that it calls twice, with places of 4 and of 8 each time.
+COPIES = """define internal void @"capi::f"(ptr noundef %a0) #0 {
+start:
+  %r0 = alloca [16 x i8], align 8
+  %r1 = getelementptr i8, ptr %r0, i64 4
+  %r2 = load ptr, ptr %r0, align 8, !noundef !2
+  %r3 = getelementptr i8, ptr %r0, i64 %r9
+  %r4 = getelementptr i8, ptr %r1, i64 2
+  call void @"capi::g"(ptr %r1, ptr %r0)
+  call void @"capi::g"(ptr %r0, ptr %a0)
+  call void @llvm.memmove.p0.p0.i64(ptr %r0, ptr %r2, i64 4, i1 false)
+  call void @llvm.memmove.p0.p0.i64(ptr %r3, ptr %a0, i64 4, i1 false)
+  call void @llvm.memmove.p0.p0.i64(ptr %r4, ptr %r1, i64 2, i1 false)
+  ret void
+}
+
+define internal void @"capi::g"(ptr noundef %a0, ptr noundef %a1) #0 {
+start:
+  %r0 = getelementptr i8, ptr %a1, i64 8
+  call void @llvm.memmove.p0.p0.i64(ptr %a0, ptr %r0, i64 8, i1 false)
+  ret void
+}
+"""
+ALIGNED = [("8 %r0", "1 %r2"), ("1 %r3", "4 %a0"), ("2 %r4", "4 %r1"), ("4 %a0", "4 %r0")]
 
 
 def refused(attempt):
@@ -82,13 +114,16 @@ def main():
         passed.append("a processor with pointers of 64 bits")
     source = '#[no_mangle]\npub extern "C" {} {{'
     passed += [kind for kind in TYPES if not refused(lambda: functions("capi", source.format(f"fn f({kind}) -> u32")))]
-    exported.fields = lambda name: ([], {"Two": 8, "Five": 20}[name])
+    exported.fields = lambda name: ([], {"Two": 8, "Three": 12, "Five": 20}[name])
     unmatched = [head for head, form in WRAPPERS.items() if not functions("capi", source.format(head))[0].wrapper().fullmatch(form)]
+    copies = re.findall(r"\(ptr align (\S+ \S+), ptr align (\S+ \S+),", aligned(COPIES, functions("capi", source.format("fn f(a: &mut u32)"))))
     for what in passed:
         print(f"not refused: {what}")
+    if copies != ALIGNED:
+        print(f"copies between places aligned as in {ALIGNED} are taken for {copies}")
     for head in unmatched:
         print(f"not known: what rattle makes of {head}")
-    if passed or unmatched:
+    if passed or unmatched or copies != ALIGNED:
         sys.exit(1)
     print(f"{crate}: {len(EDITS) + 1 + len(TYPES)} unknown forms refused, {len(WRAPPERS)} kinds of functions known")
 

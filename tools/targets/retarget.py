@@ -6,6 +6,7 @@ else stops the build, since nobody has thought about it yet."""
 import re
 import sys
 
+from alignment import aligned
 from exported import Unknown, functions_of
 
 R = r"%[ra]\d+"
@@ -102,6 +103,7 @@ def retargeted(crate, text, layout, triple):
     functions = functions_of(crate)
     text = without_wrappers(text, functions)
     check(text)
+    text = aligned(text, functions)
     if not re.search(r'"e-.*\bp:32:32-', layout):
         raise Unknown(f"only processors with 32-bit pointers, low byte first, are known, not {layout}")
     for old, new in ((r"target datalayout = .*", layout), (r"target triple = .*", triple)):

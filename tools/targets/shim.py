@@ -2,7 +2,7 @@
 import re
 import sys
 
-from exported import Unknown, functions_of
+from exported import PLACE, Unknown, functions_of
 
 HEAD = """/* Made by tools/targets/shim.py from crates/{crate}: the header's functions over the proved module's. */
 #include "mastclover.h"
@@ -47,6 +47,10 @@ def shim(function):
             slices.append(f"    mast_slice {each.name}_slice = {{ {each.name}, {each.name}_length }};\n")
             inner.append("const mast_slice *")
             passed.append(f"&{each.name}_slice")
+        elif each.kind == PLACE:
+            inner.append("uint32_t *")
+            outer.append(f"uint32_t *{each.name}")
+            passed.append(each.name)
         else:
             inner.append("uint64_t" if each.kind == "usize" else c_number(each.kind))
             outer.append(f"{c_number(each.kind)} {each.name}")
