@@ -111,12 +111,15 @@ static mast_id create(const struct task *self, mast_name name, uint32_t count, u
     return answer.value;
 }
 
-static mast_id ident(mast_name name)
+/* mast_ident does the same for those who don't ask how many slots were looked at. */
+static mast_id ident(const struct task *self, mast_name name)
 {
     mast_answer answer;
+    uint32_t looked;
     MASK();
-    answer = expect(mast_ident(tables, sizeof tables, name));
+    answer = expect(mast_ident_looked(tables, sizeof tables, name, &looked));
     UNMASK();
+    printf("%2u %-9s found its semaphore by name, looking at %u of %u slots\n", ticks, self->name, (unsigned)looked, SLOTS);
     return answer.value;
 }
 
@@ -217,8 +220,7 @@ static void display_step(struct task *self)
 
     switch (self->state) {
     case BOOT:
-        redraw = ident(mast_build_name('D', 'R', 'A', 'W'));
-        say(self->name, "found its semaphore by name");
+        redraw = ident(self, mast_build_name('D', 'R', 'A', 'W'));
         self->state = IDLE;
         break;
     case IDLE:

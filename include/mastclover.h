@@ -26,10 +26,10 @@
  * polls keeps its turn.
  *
  * Callers. `caller` is the number of the task that makes the call. An interrupt is caller 0; it may
- * call mast_release and mast_flush. mast_start, mast_ident, mast_tick, mast_task, mast_save, mast_load
- * and mast_run have no caller and may be called from anywhere. A call must not be interrupted by
- * another one on the same tables: mask interrupts around each call, and around the switch to `next`,
- * if handlers make calls too. examples/first.c shows both.
+ * call mast_release and mast_flush. mast_start, mast_ident, mast_ident_looked, mast_tick, mast_task,
+ * mast_save, mast_load and mast_run have no caller and may be called from anywhere. A call must not be
+ * interrupted by another one on the same tables: mask interrupts around each call, and around the
+ * switch to `next`, if handlers make calls too. examples/first.c shows both.
  *
  * Waiting. mast_obtain never blocks. MAST_WAITING says that the caller now waits: it must not make
  * calls before it is ready again. How its wait ended is then the value of mast_task:
@@ -203,6 +203,15 @@ mast_answer mast_create(uint8_t *tables, size_t length, uint32_t caller, mast_na
  *   MAST_SUCCESSFUL        value: the identifier
  */
 mast_answer mast_ident(const uint8_t *tables, size_t length, mast_name name);
+
+/*
+ * As mast_ident, with the same answer, and in `*looked` how many slots the search looked at: the number
+ * of the match's slot, or the number of slots if none matches; 0 with MAST_INTERNAL_ERROR, with name 0
+ * and before mast_start. The search looks at slots 1, 2, 3 .. in turn, at none after its match and at
+ * none twice; the test for MAST_INTERNAL_ERROR before it is not counted. `looked` is not NULL and points
+ * outside of the tables; the number is always written.
+ */
+mast_answer mast_ident_looked(const uint8_t *tables, size_t length, mast_name name, uint32_t *looked);
 
 /*
  * Deletes a semaphore. All its waiters become ready with answer MAST_OBJECT_WAS_DELETED, in the order

@@ -6,14 +6,14 @@
 #include "mastclover.h"
 
 enum { STACK = 65536, PAINT = 0xA5 };
-enum function { START, CREATE, IDENT, DELETE, OBTAIN, RELEASE, FLUSH, TICK, TASK, RUN, SAVE, LOAD, FUNCTIONS };
+enum function { START, CREATE, IDENT, IDENT_LOOKED, DELETE, OBTAIN, RELEASE, FLUSH, TICK, TASK, RUN, SAVE, LOAD, FUNCTIONS };
 
 static unsigned char stack[STACK];
 static uint8_t tables[MAST_TABLES_LENGTH];
 static ucontext_t here, there;
 
 static const char *const names[FUNCTIONS] = {
-    "start", "create", "ident", "delete", "obtain", "release", "flush", "tick", "task", "run", "save", "load",
+    "start", "create", "ident", "ident_looked", "delete", "obtain", "release", "flush", "tick", "task", "run", "save", "load",
 };
 static size_t most[FUNCTIONS];
 static int ran;
@@ -45,6 +45,7 @@ static void run_sections(void)
 /* A file of the tables, and a machine that is not started. */
 static uint8_t file[MAST_STATE_MAXIMUM], other[MAST_TABLES_LENGTH];
 static mast_answer answered;
+static uint32_t looked;
 
 static void call(void)
 {
@@ -53,6 +54,7 @@ static void call(void)
     case START: mast_start(tables, sizeof tables, a, priorities, 8); break;
     case CREATE: mast_create(tables, sizeof tables, a, b, c, d); break;
     case IDENT: mast_ident(tables, sizeof tables, a); break;
+    case IDENT_LOOKED: mast_ident_looked(tables, sizeof tables, a, &looked); break;
     case DELETE: mast_delete(tables, sizeof tables, a, b); break;
     case OBTAIN: mast_obtain(tables, sizeof tables, a, b, c, d); break;
     case RELEASE: mast_release(tables, sizeof tables, a, b); break;
@@ -92,6 +94,7 @@ int main(void)
         uint32_t id = (round + 1) * 65536 + 1;
         run(CREATE, 1, 7, round % 2, round == 1 ? MAST_BINARY_SEMAPHORE | MAST_PRIORITY : MAST_PRIORITY);
         run(IDENT, 7, 0, 0, 0);
+        run(IDENT_LOOKED, 7, 0, 0, 0);
         for (i = 2; i <= 8; i++)
             run(OBTAIN, i, id, i == 8 ? MAST_NO_WAIT : MAST_WAIT, i == 3 ? 1 : MAST_NO_TIMEOUT);
         run(TASK, 3, 0, 0, 0);
@@ -119,6 +122,6 @@ int main(void)
         return 1;
     }
     for (i = 0; i < FUNCTIONS; i++)
-        printf("mast_%-8s %5zu bytes\n", names[i], most[i]);
+        printf("mast_%-12s %5zu bytes\n", names[i], most[i]);
     return 0;
 }

@@ -55,4 +55,6 @@ impl Answer {
 /// Anything that serves calls on lent bytes.
 pub trait Manager {
     fn call(&mut self, tables: &mut [u8], call: &Call) -> Answer;
+    /// An ident, and how many slots it looked at. The bytes are lent to be written, so that a write is seen.
+    fn ident_looked(&mut self, tables: &mut [u8], name: u32) -> (Answer, u32);
 }

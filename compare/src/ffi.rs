@@ -28,6 +28,7 @@ unsafe extern "C" {
         attributes: u32,
     ) -> MastAnswer;
     fn mast_ident(tables: *const u8, length: usize, name: u32) -> MastAnswer;
+    fn mast_ident_looked(tables: *const u8, length: usize, name: u32, looked: *mut u32) -> MastAnswer;
     fn mast_delete(tables: *mut u8, length: usize, caller: u32, id: u32) -> MastAnswer;
     fn mast_obtain(
         tables: *mut u8,
@@ -83,6 +84,19 @@ pub fn create(tables: &mut [u8], caller: u32, name: u32, count: u32, attributes:
 
 pub fn ident(tables: &[u8], name: u32) -> Answer {
     unsafe { mast_ident(tables.as_ptr(), tables.len(), name) }.into()
+}
+
+/// No search looks at so many slots, so a count that is not written is not taken for one.
+const UNWRITTEN: u32 = 0xA5A5_5A5A;
+
+pub fn ident_looked(tables: &mut [u8], name: u32) -> (Answer, u32) {
+    // The count between two guards, which a wider write would change.
+    let mut numbers = [!UNWRITTEN, UNWRITTEN, !UNWRITTEN];
+    let place = numbers.as_mut_ptr().wrapping_add(1);
+    let answer = unsafe { mast_ident_looked(tables.as_mut_ptr(), tables.len(), name, place) };
+    let [before, looked, after] = numbers;
+    assert!([before, after] == [!UNWRITTEN; 2], "numbers beside the count were written");
+    (answer.into(), looked)
 }
 
 pub fn delete(tables: &mut [u8], caller: u32, id: u32) -> Answer {
@@ -202,6 +216,10 @@ impl Manager for Library {
             Call::Tick => tick(tables),
             Call::Task { task: number } => task(tables, number),
         }
+    }
+
+    fn ident_looked(&mut self, tables: &mut [u8], name: u32) -> (Answer, u32) {
+        ident_looked(tables, name)
     }
 }
 

@@ -196,15 +196,23 @@ pub fn create(words: &mut Words, caller: u32, name: u32, count: u32, attributes:
 }
 
 pub fn ident(words: &Words, name: u32) -> Answer {
+    ident_looked(words, name).0
+}
+
+/// The same, with a count that goes up with each slot whose name is read.
+pub fn ident_looked(words: &Words, name: u32) -> (Answer, u32) {
+    let mut looked = 0;
     // A free slot's name is 0, so with another name only live slots match.
-    let named = |&index: &usize| get(words, slot_at(index) + NAME) == name;
-    match (0..get(words, SLOTS) as usize).find(named) {
-        Some(index) if name != 0 => {
-            let generation = get(words, slot_at(index) + GENERATION);
-            answer(words, SUCCESSFUL, generation << 16 | (index as u32 + 1))
+    let slots = if name == 0 { 0 } else { get(words, SLOTS) as usize };
+    for index in 0..slots {
+        let at = slot_at(index);
+        looked += 1;
+        if get(words, at + NAME) == name {
+            let id = get(words, at + GENERATION) << 16 | (index as u32 + 1);
+            return (answer(words, SUCCESSFUL, id), looked);
         }
-        _ => answer(words, INVALID_NAME, 0),
     }
+    (answer(words, INVALID_NAME, 0), looked)
 }
 
 pub fn delete(words: &mut Words, caller: u32, id: u32) -> Answer {

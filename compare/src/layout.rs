@@ -214,4 +214,9 @@ impl Manager for Model {
         write_into(&machine, tables);
         answer
     }
+
+    fn ident_looked(&mut self, tables: &mut [u8], name: u32) -> (Answer, u32) {
+        let Some(machine) = read(tables) else { return (Answer::DISAGREE, 0) };
+        (self.call(tables, &Call::Ident { name }), machine.looked(name))
+    }
 }

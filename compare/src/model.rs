@@ -222,13 +222,25 @@ impl Machine {
     }
 
     fn ident(&self, name: u32) -> Served {
-        let named = |slot: &Slot| slot.live.as_ref().is_some_and(|live| live.name == name);
         // A live semaphore's name is never 0, but the paper names that refusal by itself.
         if name == 0 {
             return Err(INVALID_NAME);
         }
-        let index = self.slots.iter().position(named).ok_or(INVALID_NAME)?;
+        let index = self.first_named(name).ok_or(INVALID_NAME)?;
         Ok(Outcome::Done(identifier(self.slots[index].generation, index)))
+    }
+
+    /// How many slots an ident looks at: the number of its match's slot, or S if none matches; 0 for name 0.
+    pub fn looked(&self, name: u32) -> u32 {
+        if name == 0 {
+            return 0;
+        }
+        self.first_named(name).map_or(self.slots.len(), |index| index + 1) as u32
+    }
+
+    fn first_named(&self, name: u32) -> Option<usize> {
+        let named = |slot: &Slot| slot.live.as_ref().is_some_and(|live| live.name == name);
+        self.slots.iter().position(named)
     }
 
     fn delete(&mut self, caller: u32, id: u32) -> Served {

@@ -1,8 +1,9 @@
 //! Calls with the answers and the bytes that they must give, written down for a board that has no Rust.
 //!
 //! Words of four bytes, low byte first. An entry begins with its kind:
-//! a call's place in `KINDS`, four numbers of the call (for a start: slots, how many priorities, and those after the four), then
-//! status, value, next and the sum over the tables after the call; or `LEND`, or `WRITE`, or `END` with the number of calls.
+//! a call's place in `KINDS`, four numbers of the call (for a start: slots, how many priorities, and those after the four; for an
+//! ident: the name, and how many slots it looks at), then status, value, next and the sum over the tables after the call; or `LEND`,
+//! or `WRITE`, or `END` with the number of calls. An ident is one entry for both functions that make it.
 
 use std::io::{self, Write};
 
@@ -91,12 +92,12 @@ fn sum(bytes: &[u8]) -> u32 {
     bytes.iter().fold(0x811C_9DC5, |sum, &byte| (sum ^ u32::from(byte)).wrapping_mul(0x0100_0193))
 }
 
-/// The four numbers of a call.
-fn numbers(call: &Call) -> [u32; 4] {
+/// The four numbers of a call on these tables.
+fn numbers(call: &Call, tables: &mut [u8]) -> [u32; 4] {
     match *call {
         Call::Start { slots, ref priorities } => [slots, priorities.len() as u32, 0, 0],
         Call::Create { caller, name, count, attributes } => [caller, name, count, attributes],
-        Call::Ident { name } => [name, 0, 0, 0],
+        Call::Ident { name } => [name, Model.ident_looked(tables, name).1, 0, 0],
         Call::Delete { caller, id } | Call::Release { caller, id } | Call::Flush { caller, id } => {
             [caller, id, 0, 0]
         }
@@ -109,9 +110,10 @@ fn numbers(call: &Call) -> [u32; 4] {
 impl<W: Write> Manager for Recorder<W> {
     fn call(&mut self, tables: &mut [u8], call: &Call) -> Answer {
         self.lend(tables);
+        let numbers = numbers(call, tables);
         let answer = Model.call(tables, call);
         self.words(&[call.kind() as u32]);
-        self.words(&numbers(call));
+        self.words(&numbers);
         if let Call::Start { priorities, .. } = call {
             self.words(priorities);
         }
@@ -120,5 +122,10 @@ impl<W: Write> Manager for Recorder<W> {
         self.calls += 1;
         self.damaged += u64::from(answer == Answer::DISAGREE);
         answer
+    }
+
+    fn ident_looked(&mut self, tables: &mut [u8], name: u32) -> (Answer, u32) {
+        // The entry of the call has the count already.
+        Model.ident_looked(tables, name)
     }
 }

@@ -18,20 +18,26 @@ fn in_place_is_as_the_model() {
     assert_eq!(rounds(&mut Tested, 80), Ok(Vec::new()));
 }
 
-/// The in-place variant with something done otherwise in its saves and loads.
+/// The in-place variant with something done otherwise in its saves, its loads, or its counts of slots.
 struct Wrong {
     save: fn(&[u8], &mut [u8]) -> Answer,
     load: fn(&mut [u8], &[u8]) -> Answer,
+    looked: fn(&mut [u8], u32) -> (Answer, u32),
 }
 
 const RIGHT: Wrong = Wrong {
     save: |tables, file| Tested.save(tables, file),
     load: |tables, file| Tested.load(tables, file),
+    looked: |tables, name| Tested.ident_looked(tables, name),
 };
 
 impl Manager for Wrong {
     fn call(&mut self, tables: &mut [u8], call: &Call) -> Answer {
         Tested.call(tables, call)
+    }
+
+    fn ident_looked(&mut self, tables: &mut [u8], name: u32) -> (Answer, u32) {
+        (self.looked)(tables, name)
     }
 }
 
@@ -166,4 +172,13 @@ fn a_load_that_forgets_the_sequence_is_found() {
         answer
     };
     is_found(Wrong { load, ..RIGHT }, "ready sequence place");
+}
+
+#[test]
+fn an_ident_that_counts_wrong_after_a_load_is_found() {
+    let looked = |tables: &mut [u8], name: u32| {
+        let (answer, count) = Tested.ident_looked(tables, name);
+        (answer, count + u32::from(answer.status == 0))
+    };
+    is_found(Wrong { looked, ..RIGHT }, "slots looked at: independent ");
 }

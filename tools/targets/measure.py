@@ -175,7 +175,7 @@ def print_instructions(run):
     report = (run / "out").read_text()
     loops = int(re.search(r"^counts in loops (\d+)$", report, re.M)[1])
     if loops:
-        found = re.findall(r"^([a-z]+) (\d+)$", report, re.M)
+        found = re.findall(r"^(?!mast_)([a-z_]+) (\d+)$", report, re.M)
         print("  instructions at most: " + ", ".join(f"{name} {int(counts) * 200000 // loops:,}" for name, counts in found))
 
 

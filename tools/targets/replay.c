@@ -1,18 +1,20 @@
 /*
  * Makes the calls that compare's `record` wrote down, from standard input, on the library of this processor, and compares each
- * answer, a sum over the tables' bytes after it and the bytes around them. Says how many calls there were, how many differ, and the
- * most stack of each function, for which every call runs on a painted stack of its own, and on a board the most time of each. Ends
- * with status 0 only if no call differs.
+ * answer, a sum over the tables' bytes after it and the bytes around them. An ident is made by both of its functions, and the slots
+ * that it looked at are compared. Says how many calls there were, how many differ, and the most stack of each function, for which
+ * every call runs on a painted stack of its own, and on a board the most time of each. Ends with status 0 only if no call differs.
  */
 #include "mastclover.h"
 #include "processor.h"
 #include "painted.h"
 
 enum { START, CREATE, IDENT, DELETE, OBTAIN, RELEASE, FLUSH, TICK, TASK, KINDS, LEND = 16, WRITE, END };
+/* The functions: one for each kind of call, and the ident that counts, which has no entry of its own. */
+enum { IDENT_LOOKED = KINDS, FUNCTIONS };
 enum { GUARD = 64, MOST_BYTES = 12000, MOST_PRIORITIES = 512, GUARD_BYTE = 0xA5, SHOWN = 5 };
 
-static const char *const names[KINDS] = { "mast_start", "mast_create", "mast_ident", "mast_delete", "mast_obtain",
-                                          "mast_release", "mast_flush", "mast_tick", "mast_task" };
+static const char *const names[FUNCTIONS] = { "mast_start", "mast_create", "mast_ident", "mast_delete", "mast_obtain",
+                                              "mast_release", "mast_flush", "mast_tick", "mast_task", "mast_ident_looked" };
 
 /* ---- the record */
 
@@ -72,9 +74,15 @@ static uint32_t sum(void)
     return found;
 }
 
+/* How many slots an ident looked at, between two words that no call may write; what it holds before is no count. */
+static uint32_t looked[3];
+static const uint32_t unwritten = 0xA5A55A5A;
+
 static int guards_hold(void)
 {
     const uint8_t *after = tables + length;
+    if (looked[0] != unwritten || looked[2] != unwritten)
+        return 0;
     for (const uint8_t *at = memory; at < tables; at++)
         if (*at != GUARD_BYTE)
             return 0;
@@ -89,7 +97,7 @@ static int guards_hold(void)
 static uint32_t kind, a, b, c, d;
 static uint32_t priorities[MOST_PRIORITIES];
 static mast_answer answer;
-static cost most[KINDS];
+static cost most[FUNCTIONS];
 
 static void make_call(void)
 {
@@ -98,6 +106,7 @@ static void make_call(void)
     case START: answer = mast_start(tables, length, a, b == 0 ? NULL : priorities, b); break;
     case CREATE: answer = mast_create(tables, length, a, b, c, d); break;
     case IDENT: answer = mast_ident(tables, length, a); break;
+    case IDENT_LOOKED: answer = mast_ident_looked(tables, length, a, &looked[1]); break;
     case DELETE: answer = mast_delete(tables, length, a, b); break;
     case OBTAIN: answer = mast_obtain(tables, length, a, b, c, d); break;
     case RELEASE: answer = mast_release(tables, length, a, b); break;
@@ -107,21 +116,45 @@ static void make_call(void)
     }
 }
 
-static void say_answer(const char *who, uint32_t status, uint32_t value, uint32_t next, uint32_t bytes)
+/* What is compared of a call: its answer, the sum over the tables after it, and what an ident counted. */
+enum { STATUS, VALUE, NEXT, SUM, LOOKED, NUMBERS };
+
+static void say_numbers(const char *who, const uint32_t numbers[NUMBERS])
 {
-    const uint32_t numbers[] = { status, value, next, bytes };
     say(who);
-    for (int at = 0; at < 4; at++) {
+    for (int at = 0; at < NUMBERS; at++) {
         say(" ");
         say_number(numbers[at]);
     }
     say("\n");
 }
 
+/* Calls the function that `kind` says; whether it did as recorded. */
+static int as_recorded(uint32_t calls, const uint32_t recorded[NUMBERS])
+{
+    static int shown;
+    looked[0] = looked[1] = looked[2] = unwritten;
+    call_painted(make_call, &most[kind]);
+    const uint32_t found[NUMBERS] = { answer.status, answer.value, answer.next, sum(), kind == IDENT_LOOKED ? looked[1] : 0 };
+    int same = guards_hold();
+    for (int at = 0; at < NUMBERS; at++)
+        same = same && found[at] == recorded[at];
+    if (!same && shown++ < SHOWN) {
+        say("difference in call ");
+        say_number(calls);
+        say(", ");
+        say(names[kind]);
+        say(guards_hold() ? "\n" : ": bytes outside of what is lent were written\n");
+        say_numbers("  recorded (status value next sum looked):", recorded);
+        say_numbers("  found:                                  ", found);
+    }
+    return same;
+}
+
 /* Makes the call whose kind was just read; whether it was as recorded. */
 static int replay(uint32_t calls)
 {
-    uint32_t status, value, next, bytes, found;
+    uint32_t recorded[NUMBERS] = { 0 };
     a = word(), b = word(), c = word(), d = word();
     if (kind == START) {
         if (b > MOST_PRIORITIES)
@@ -129,22 +162,15 @@ static int replay(uint32_t calls)
         for (uint32_t at = 0; at < b; at++)
             priorities[at] = word();
     }
-    status = word(), value = word(), next = word(), bytes = word();
-    call_painted(make_call, &most[kind]);
-    found = sum();
-    if (answer.status == status && answer.value == value && answer.next == next && found == bytes && guards_hold())
-        return 1;
-    static int shown;
-    if (shown++ < SHOWN) {
-        say("difference in call ");
-        say_number(calls);
-        say(", ");
-        say(names[kind]);
-        say(guards_hold() ? "\n" : ": bytes outside of the tables were written\n");
-        say_answer("  recorded (status value next sum):", status, value, next, bytes);
-        say_answer("  found:                           ", answer.status, answer.value, answer.next, found);
+    for (int at = STATUS; at <= SUM; at++)
+        recorded[at] = word();
+    int same = as_recorded(calls, recorded);
+    if (kind == IDENT) {
+        kind = IDENT_LOOKED;
+        recorded[LOOKED] = b;
+        same = as_recorded(calls, recorded) && same;
     }
-    return 0;
+    return same;
 }
 
 __attribute__((used)) void begin(void)
@@ -168,7 +194,7 @@ __attribute__((used)) void begin(void)
     }
     if (word() != calls)
         refuse("the record ends with another number of calls\n");
-    say_costs(names, most, KINDS);
+    say_costs(names, most, FUNCTIONS);
     say_number(calls);
     say(" calls, ");
     say_number(differences);

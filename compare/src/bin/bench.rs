@@ -1,5 +1,5 @@
 //! Time per call of the library and of this project's in-place manager, on the same sequences; and of the
-//! library's state files, beside its test for 25 on the same tables.
+//! library's state files and of its idents, beside its test for 25 on the same tables.
 
 use std::hint::black_box;
 use std::process::ExitCode;
@@ -9,9 +9,9 @@ use compare::call::{Answer, Call, Manager};
 use compare::ffi::{self, Library};
 use compare::fuzz::workload::{self, Workload};
 use compare::inplace::agreement::{Tested, Untested};
-use compare::layout::LENGTH;
+use compare::layout::{set_word, slot_at, LENGTH, NAME};
 use compare::state::LONGEST;
-use compare::status::{INVALID_NAME, SUCCESSFUL};
+use compare::status::{INVALID_NAME, MOST_SLOTS, SUCCESSFUL};
 
 /// Few enough that most replays of a busy machine are not interrupted.
 const CALLS: usize = 2_000;
@@ -136,6 +136,50 @@ fn show_state() -> bool {
     true
 }
 
+/// The best times of an ident whose match is in the last slot, by both functions, and of one of name 0.
+fn measure_ident(tables: &mut [u8], name: u32) -> Option<[f64; 3]> {
+    let (tested, none) = ffi::ident_looked(tables, 0);
+    let (found, all) = ffi::ident_looked(tables, name);
+    let given = [tested.status, none, found.status, all];
+    if given != [INVALID_NAME, 0, SUCCESSFUL, MOST_SLOTS as u32] {
+        return None;
+    }
+    let mut best = [f64::INFINITY; 3];
+    for _ in 0..ROUNDS {
+        let tests = timed(tested, || ffi::ident(tables, 0))?;
+        let idents = timed(found, || ffi::ident(tables, name))?;
+        let counted = timed(found, || ffi::ident_looked(tables, name).0)?;
+        for (best, time) in best.iter_mut().zip([tests, idents, counted]) {
+            *best = best.min(time);
+        }
+    }
+    Some(best)
+}
+
+/// The table of idents; false if an answer is wrong.
+fn show_ident() -> bool {
+    println!();
+    println!("idents, nanoseconds per call, {CALLS} calls, best of {ROUNDS}; name 0 is the test for 25 alone");
+    println!(
+        "{:<34} {:>9} {:>9} {:>9} {:>9} {:>9}",
+        "", "name 0", "slot 64", "counted", "64/0", "counted/0"
+    );
+    // No other slot has the name.
+    let (mut tables, name) = (workload::queues(), u32::MAX);
+    set_word(&mut tables, slot_at(MOST_SLOTS - 1) + NAME, name);
+    let Some([test, ident, counted]) = measure_ident(&mut tables, name) else {
+        println!("idents: the answers are wrong; run compare");
+        return false;
+    };
+    println!(
+        "{:<34} {test:>9.1} {ident:>9.1} {counted:>9.1} {:>9.2} {:>9.2}",
+        "32 tasks, 64 live slots, queues",
+        ident / test,
+        counted / test
+    );
+    true
+}
+
 fn main() -> ExitCode {
     println!("nanoseconds per call, {CALLS} calls, best of {ROUNDS}");
     println!(
@@ -154,5 +198,6 @@ fn main() -> ExitCode {
             library / untested
         );
     }
-    ExitCode::from(u8::from(!show_state()))
+    let right = show_state() && show_ident();
+    ExitCode::from(u8::from(!right))
 }

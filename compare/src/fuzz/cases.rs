@@ -1,5 +1,9 @@
 //! The cases that the rules name, P1 to P15 among them, run on any manager.
 
+mod idents;
+
+use std::fmt::Debug;
+
 use crate::call::{Answer, Call, Manager};
 use crate::fuzz::lent::Lent;
 use crate::layout::{self, LENGTH};
@@ -14,9 +18,12 @@ struct Case<'a> {
 
 impl Case<'_> {
     fn expect(&mut self, call: Call, status: u32, value: u32, next: u32) {
-        let wanted = Answer::new(status, value, next);
         let found = self.subject.call(self.tables.bytes_mut(), &call);
         self.done += 1;
+        self.check(&call, Answer::new(status, value, next), found);
+    }
+
+    fn check<Given: PartialEq + Debug>(&mut self, call: &Call, wanted: Given, found: Given) {
         if self.failed.is_some() {
             return;
         }
@@ -24,6 +31,17 @@ impl Case<'_> {
             self.failed = Some(format!("{call:?}: the rules say {wanted:?}, got {found:?}"));
         } else if !self.tables.guards_hold() {
             self.failed = Some(format!("{call:?}: bytes outside the lent memory were written"));
+        }
+    }
+
+    /// An ident, made by both functions: the answer, and how many slots are looked at.
+    fn ident(&mut self, name: u32, [status, value, next]: [u32; 3], looked: u32) {
+        let (call, before) = (Call::Ident { name }, self.tables.bytes().to_vec());
+        self.expect(call.clone(), status, value, next);
+        let found = self.subject.ident_looked(self.tables.bytes_mut(), name);
+        self.check(&call, (Answer::new(status, value, next), looked), found);
+        if self.tables.bytes() != before && self.failed.is_none() {
+            self.failed = Some(format!("{call:?}: the tables were changed"));
         }
     }
 
@@ -62,7 +80,7 @@ impl Case<'_> {
 /// A case's name and what runs it.
 type Named = (&'static str, fn(&mut Case));
 
-const CASES: [Named; 21] = [
+const CASES: [Named; 20] = [
     ("P1 to P11", worked_session),
     ("P12", |case| {
         case.start(1, &[1], 1);
@@ -164,7 +182,7 @@ const CASES: [Named; 21] = [
         case.create(2, 7, 0, 0, [0, 65539, 2]);
         case.expect(Call::Flush { caller: 2, id: 65539 }, 0, 0, 2);
         case.expect(Call::Delete { caller: 2, id: 65539 }, 0, 0, 2);
-        case.expect(Call::Ident { name: 9 }, 0, 65537, 2);
+        case.ident(9, [0, 65537, 2], 1);
         case.release(2, 65539, [4, 0, 2]);
         case.tick(2);
         case.task(2, 0, 2);
@@ -226,16 +244,6 @@ const CASES: [Named; 21] = [
         case.release(2, 65537, [0, 0, 1]);
         case.task(1, 0, 1);
     }),
-    ("ident gives the lowest slot of the name", |case| {
-        case.start(3, &[1], 1);
-        case.create(1, 8, 0, 0, [0, 65537, 1]);
-        case.create(1, 9, 0, 0, [0, 65538, 1]);
-        case.create(1, 9, 0, 0, [0, 65539, 1]);
-        case.expect(Call::Ident { name: 9 }, 0, 65538, 1);
-        case.expect(Call::Delete { caller: 1, id: 65538 }, 0, 0, 1);
-        case.expect(Call::Ident { name: 9 }, 0, 65539, 1);
-        case.expect(Call::Ident { name: 0 }, 3, 0, 1);
-    }),
     ("nest at its end", |case| {
         case.start(1, &[1], 1);
         case.create(1, 9, 0, 16, [0, 65537, 1]);
@@ -253,7 +261,8 @@ const CASES: [Named; 21] = [
     }),
     ("a machine not yet started", |case| {
         case.expect(Call::Tick, 0, 0, 0);
-        case.expect(Call::Ident { name: 1 }, 3, 0, 0);
+        case.ident(1, [3, 0, 0], 0);
+        case.ident(0, [3, 0, 0], 0);
         case.create(0, 9, 0, 0, [18, 0, 0]);
         case.create(1, 9, 0, 0, [4, 0, 0]);
         case.release(0, 65537, [4, 0, 0]);
@@ -283,7 +292,7 @@ fn worked_session(case: &mut Case) {
 /// Runs every case; how many calls were made, or the first answer that is not the rules'.
 pub fn run(subject: &mut dyn Manager) -> Result<u64, String> {
     let mut done = 0;
-    for (name, run_case) in CASES {
+    for (name, run_case) in CASES.into_iter().chain(idents::CASES) {
         let mut case = Case { subject, tables: Lent::new(&[0; LENGTH], 0), done: 0, failed: None };
         run_case(&mut case);
         if let Some(failure) = case.failed {

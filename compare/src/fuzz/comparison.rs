@@ -6,6 +6,7 @@ use crate::call::{Answer, Call, Manager};
 use crate::fuzz::coverage::Coverage;
 use crate::fuzz::lent::Lent;
 use crate::layout::{word, word_name, LENGTH};
+use crate::model::Machine;
 
 /// Where in a comparison a call was made; the seed repeats it.
 #[derive(Clone, Copy, Debug)]
@@ -22,6 +23,8 @@ pub struct Difference {
     pub call: Call,
     pub expected: Answer,
     pub found: Answer,
+    /// How many slots an ident has to look at and did, where it was asked to count them.
+    pub looked: Option<[u32; 2]>,
     /// What of the memory differs, if anything.
     pub memory: Option<String>,
     /// The tables before the call, when they had been damaged.
@@ -36,9 +39,13 @@ impl fmt::Display for Difference {
             writeln!(out, "  damage:      {damage}")?;
         }
         writeln!(out, "  call:        {:?}", self.call)?;
+        let [wanted, counted] = match self.looked {
+            Some(numbers) => numbers.map(|number| format!(", slots looked at: {number}")),
+            None => [String::new(), String::new()],
+        };
         let answer = |answer: Answer| format!("{} {} {}", answer.status, answer.value, answer.next);
-        writeln!(out, "  independent: {}", answer(self.expected))?;
-        writeln!(out, "  library:     {}", answer(self.found))?;
+        writeln!(out, "  independent: {}{wanted}", answer(self.expected))?;
+        writeln!(out, "  library:     {}{counted}", answer(self.found))?;
         let memory = self.memory.as_deref().unwrap_or("no byte differs");
         write!(out, "  tables:      {memory}")
     }
@@ -58,27 +65,59 @@ impl<'a> Comparison<'a> {
         Comparison { subject, coverage: Coverage::default(), calls: 0, trace: false }
     }
 
-    /// Makes one call of the subject, and compares its answer and every byte.
+    /// Makes one call of the subject, an ident by both functions, and compares its answer and every byte.
     pub fn step(
         &mut self,
         place: Place,
         call: &Call,
         lent: &mut Lent,
-        expected: Answer,
-        expected_bytes: &[u8],
+        expected: &Expected,
     ) -> Result<(), Box<Difference>> {
-        if self.trace {
-            eprintln!("{}, seed {}, step {}: {call:?}", place.part, place.seed, place.step);
-        }
+        self.say(place, call, "");
         let found = self.subject.call(lent.bytes_mut(), call);
         self.calls += 1;
-        self.coverage.answered(call, expected.status);
-        if found == expected && lent.bytes() == expected_bytes && lent.guards_hold() {
+        self.coverage.answered(call, expected.answer.status);
+        expected.compare(place, call, lent, found, None)?;
+        let Call::Ident { name } = *call else { return Ok(()) };
+        let wanted = expected.before.map_or(0, |machine| machine.looked(name));
+        self.say(place, call, ", counted");
+        let (found, looked) = self.subject.ident_looked(lent.bytes_mut(), name);
+        expected.compare(place, call, lent, found, Some([wanted, looked]))?;
+        self.coverage.looked(expected.before, expected.bytes, name);
+        Ok(())
+    }
+
+    fn say(&self, place: Place, call: &Call, how: &str) {
+        if self.trace {
+            eprintln!("{}, seed {}, step {}: {call:?}{how}", place.part, place.seed, place.step);
+        }
+    }
+}
+
+/// What a call on lent memory has to give.
+pub struct Expected<'a> {
+    /// The machine that the memory held, or nothing if that was none.
+    pub before: Option<&'a Machine>,
+    pub answer: Answer,
+    pub bytes: &'a [u8],
+}
+
+impl Expected<'_> {
+    fn compare(
+        &self,
+        place: Place,
+        call: &Call,
+        lent: &Lent,
+        found: Answer,
+        looked: Option<[u32; 2]>,
+    ) -> Result<(), Box<Difference>> {
+        let counted = looked.is_none_or(|[wanted, found]| wanted == found);
+        if found == self.answer && counted && lent.bytes() == self.bytes && lent.guards_hold() {
             return Ok(());
         }
-        let memory = memory_difference(lent, expected_bytes);
-        let call = call.clone();
-        Err(Box::new(Difference { place, call, expected, found, memory, damage: None }))
+        let (call, expected) = (call.clone(), self.answer);
+        let memory = memory_difference(lent, self.bytes);
+        Err(Box::new(Difference { place, call, expected, found, looked, memory, damage: None }))
     }
 }
 

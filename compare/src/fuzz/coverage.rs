@@ -1,6 +1,7 @@
 //! What has occurred in a comparison, and what has to.
 
 mod equals;
+mod searches;
 
 pub use equals::next_passes_a_lower_equal;
 
@@ -209,7 +210,7 @@ impl Coverage {
         }
         let foreign = self.statuses.keys().filter(|(kind, status)| !STATUSES[*kind].contains(status));
         gaps.extend(foreign.map(|(kind, status)| format!("{} answered {status}", KINDS[*kind])));
-        let wanted = HAPPENINGS.into_iter().chain(equals::wanted());
+        let wanted = HAPPENINGS.into_iter().chain(equals::wanted()).chain(searches::wanted());
         let missing = wanted.filter(|name| !self.happenings.contains_key(name));
         gaps.extend(missing.map(|name| format!("never seen: {name}")));
         gaps

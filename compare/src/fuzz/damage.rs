@@ -1,7 +1,7 @@
 //! Damaged tables: 25 and nothing changed, or served, as this project's own code does.
 
 use crate::call::{Answer, Call, Manager, KINDS};
-use crate::fuzz::comparison::{Comparison, Difference, Place};
+use crate::fuzz::comparison::{Comparison, Difference, Expected, Place};
 use crate::fuzz::generate::Plan;
 use crate::fuzz::lent::Lent;
 use crate::fuzz::mutate::mutate;
@@ -11,10 +11,14 @@ use crate::model::Machine;
 
 type Compared = Result<(), Box<Difference>>;
 
-/// Calls made on every damaged table: one of each kind, drawn for the tables before the damage.
+/// Calls made on every damaged table: one of each kind, drawn for the tables before the damage, and an ident
+/// that matched there.
 fn probes(rng: &mut Rng, machine: &Machine) -> Vec<Call> {
     let plan = Plan::draw(rng);
-    (0..KINDS.len()).map(|kind| plan.draw_kind(rng, machine, kind)).collect()
+    let mut calls: Vec<Call> = (0..KINDS.len()).map(|kind| plan.draw_kind(rng, machine, kind)).collect();
+    let last = machine.slots.iter().rev().find_map(|slot| slot.live.as_ref());
+    calls.extend(last.map(|live| Call::Ident { name: live.name }));
+    calls
 }
 
 /// Makes each call on its own copy of the bytes.
@@ -24,11 +28,16 @@ fn probe(comparison: &mut Comparison, place: Place, calls: &[Call], lent: &mut L
     comparison.coverage.damaged(&bytes, machine.as_ref());
     for call in calls {
         let compared = match &machine {
-            None => comparison.step(place, call, lent, Answer::DISAGREE, &bytes),
-            Some(machine) => {
-                let mut machine = machine.clone();
+            None => {
+                let expected = Expected { before: None, answer: Answer::DISAGREE, bytes: &bytes };
+                comparison.step(place, call, lent, &expected)
+            }
+            Some(before) => {
+                let mut machine = before.clone();
                 let answer = machine.call(call);
-                let compared = comparison.step(place, call, lent, answer, &layout::write(&machine));
+                let after = layout::write(&machine);
+                let expected = Expected { before: Some(before), answer, bytes: &after };
+                let compared = comparison.step(place, call, lent, &expected);
                 lent.bytes_mut().copy_from_slice(&bytes);
                 compared
             }

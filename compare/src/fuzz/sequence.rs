@@ -1,6 +1,6 @@
 //! Random sequences of calls, every answer and every byte compared.
 
-use crate::fuzz::comparison::{Comparison, Difference, Place};
+use crate::fuzz::comparison::{Comparison, Difference, Expected, Place};
 use crate::fuzz::generate::Plan;
 use crate::fuzz::lent::Lent;
 use crate::fuzz::rng::Rng;
@@ -26,7 +26,8 @@ pub fn run(comparison: &mut Comparison, seed: u64) -> Result<Machine, Box<Differ
         let answer = machine.call(&call);
         layout::write_into(&machine, &mut expected);
         let place = Place { part: "random sequences", seed, step };
-        comparison.step(place, &call, &mut lent, answer, &expected)?;
+        let wanted = Expected { before: Some(&before), answer, bytes: &expected };
+        comparison.step(place, &call, &mut lent, &wanted)?;
         comparison.coverage.saw(&before, &call, answer, &machine);
     }
     Ok(machine)

@@ -174,6 +174,13 @@ impl Manager for Tested {
             _ => Answer::DISAGREE,
         }
     }
+
+    fn ident_looked(&mut self, tables: &mut [u8], name: u32) -> (Answer, u32) {
+        match words(tables) {
+            Some(words) if words_agree(words) => inplace::ident_looked(words, name),
+            _ => (Answer::DISAGREE, 0),
+        }
+    }
 }
 
 /// The in-place variant alone; the lent bytes have to agree.
@@ -183,5 +190,10 @@ impl Manager for Untested {
     fn call(&mut self, tables: &mut [u8], call: &Call) -> Answer {
         let words = words_mut(tables).expect("the lent bytes have the layout's length");
         serve(words, call)
+    }
+
+    fn ident_looked(&mut self, tables: &mut [u8], name: u32) -> (Answer, u32) {
+        let words = words(tables).expect("the lent bytes have the layout's length");
+        inplace::ident_looked(words, name)
     }
 }

@@ -1,6 +1,6 @@
 //! The comparison of one save or load on lent memory, and of the calls that follow.
 
-use crate::call::Answer;
+use crate::call::{Answer, Call};
 use crate::fuzz::comparison::memory_difference;
 use crate::fuzz::generate::Plan;
 use crate::fuzz::lent::Lent;
@@ -82,6 +82,12 @@ impl<'a> Comparison<'a> {
             let told = |said: String| format!("load, {part}, then step {step}, {call:?}: {said}");
             same_answer(expected, found).map_err(told)?;
             same_tables(tables, &wanted).map_err(told)?;
+            let Call::Ident { name } = call else { continue };
+            let (found, looked) = self.subject.ident_looked(tables.bytes_mut(), name);
+            same_answer(expected, found).map_err(told)?;
+            same_count(machine.looked(name), looked).map_err(told)?;
+            same_tables(tables, &wanted).map_err(told)?;
+            self.seen.looked(expected, looked);
         }
         self.seen.went_on(part);
         Ok(())
@@ -94,6 +100,13 @@ fn same_answer(expected: Answer, found: Answer) -> Compared {
     }
     let shown = |answer: Answer| format!("{} {} {}", answer.status, answer.value, answer.next);
     Err(format!("independent {}, library {}", shown(expected), shown(found)))
+}
+
+fn same_count(expected: u32, found: u32) -> Compared {
+    match expected == found {
+        true => Ok(()),
+        false => Err(format!("slots looked at: independent {expected}, library {found}")),
+    }
 }
 
 fn same_tables(tables: &Lent, wanted: &[u8]) -> Compared {

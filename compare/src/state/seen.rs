@@ -2,10 +2,11 @@
 
 use std::collections::BTreeMap;
 
+use crate::call::Answer;
 use crate::model::Machine;
 use crate::state::read::Fault;
 use crate::state::{write, LONGEST};
-use crate::status::LAST_GENERATION;
+use crate::status::{LAST_GENERATION, SUCCESSFUL};
 
 /// What is saved.
 pub mod saves {
@@ -72,7 +73,7 @@ const LOADS: [(&str, &[u32]); 18] = [
 ];
 
 /// Tables that have to be among those saved, and what has to follow a load.
-const HAPPENINGS: [&str; 10] = [
+const HAPPENINGS: [&str; 12] = [
     "saved: the longest file",
     "saved: no task ready",
     "saved: no task waiting",
@@ -83,6 +84,8 @@ const HAPPENINGS: [&str; 10] = [
     "saved: a live slot of generation 65535",
     "calls after a load of the file saved",
     "calls after a load of a damaged file",
+    "ident after a load matched behind slot 1",
+    "ident after a load matched nothing",
 ];
 
 #[derive(Default)]
@@ -116,6 +119,13 @@ impl Seen {
     pub fn went_on(&mut self, part: &'static str) {
         self.happened(HAPPENINGS[8], part == loads::RIGHT);
         self.happened(HAPPENINGS[9], part != loads::RIGHT);
+    }
+
+    /// Counts an ident that followed a load and the slots that it looked at.
+    pub fn looked(&mut self, answer: Answer, looked: u32) {
+        let found = answer.status == SUCCESSFUL;
+        self.happened(HAPPENINGS[10], found && looked > 1);
+        self.happened(HAPPENINGS[11], !found && looked > 0);
     }
 
     /// Counts what a round's tables are like.

@@ -4,7 +4,7 @@ ghost use mathlib.Core.Path.{_≡_};
 ghost use mathlib.Core.List.{[]};
 ghost use Rattle.rules.specs.declared.Call.the-variants.{Start, Create, Ident, Delete, Obtain, Release, Flush, Tick};
 ghost use Rattle.rules.specs.Semaphore.{waitOf};
-ghost use Rattle.manager.specs.Entry.{Replied, replyTo, taskReply};
+ghost use Rattle.manager.specs.Entry.{Replied, replyTo, lookedIn, taskReply};
 
 #[no_mangle]
 pub extern "C" fn mast_start(tables: &mut [u8], slots: u32, priorities: &[u32]) -> Answer
@@ -31,6 +31,16 @@ pub extern "C" fn mast_ident(tables: &[u8], name: u32) -> Answer
     ensures { λ r. ⌜ Replied r (now (tables .entry)) (replyTo (now (tables .entry)) (Ident name) []) ⌝ }
 {
     manager::ident(tables, name)
+}
+
+#[no_mangle]
+pub extern "C" fn mast_ident_looked(tables: &[u8], name: u32, looked: &mut u32) -> Answer
+    ensures replied { λ r. ⌜ Replied r (now (tables .entry)) (replyTo (now (tables .entry)) (Ident name) []) ⌝ }
+    ensures looked { λ _. ⌜ now (looked .exit) ≡ lookedIn (now (tables .entry)) name ⌝ }
+{
+    let r = manager::ident_looked(tables, name);
+    *looked = r.looked;
+    r.answer
 }
 
 #[no_mangle]

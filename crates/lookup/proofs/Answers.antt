@@ -19,7 +19,9 @@ use Rattle.rules.specs.Calls.{callerRefusal}
 use Rattle.semaphore.specs.declared.Semaphore.{Semaphore}
 use Rattle.semaphore.specs.Record.{slotFrom}
 use Rattle.tables.specs.Layout.{modelOf, taskAt, recordAt}
-use Rattle.lookup.proofs.Searches.{isOpen, isNamed}
+use Rattle.lookup.specs.declared.looks.Look.{Look}
+use Rattle.lookup.specs.Search.{isMatch}
+use Rattle.rules.proofs.Searching.{isOpen, isNamed}
 use Rattle.lookup.proofs.Model.{length-tasks, length-slots, task-read, task-none, slot-read}
 
 and-first : {a : Bool} (b : Bool) → a ≡ false → (a and b) ≡ false
@@ -74,10 +76,10 @@ module _ (bs : List ℕ) (i : ℕ) (h : i < wordAt bs 1) where
   open-test live generation r l g e =
       ap₂ (λ (live generation : ℕ). isnt (eqb live 1) and ltb generation 65535) (slot-live ∙ sym l) (slot-generation ∙ sym g) ∙ sym e
 
-  pub named-test : (live found name : ℕ) (r : Bool) → live ≡ recordAt bs i .live → found ≡ recordAt bs i .name
-      → r ≡ (eqb live 1 and eqb found name) → isNamed name (getD (modelOf bs .slots) i (freeSlot 0)) ≡ r
-  named-test live found name r l f e =
-      ap₂ (λ (live found : ℕ). eqb live 1 and eqb found name) (slot-live ∙ sym l) (slot-name ∙ sym f) ∙ sym e
+  pub match-test : (last : Look) (name : ℕ) → last .live ≡ recordAt bs i .live → last .name ≡ recordAt bs i .name
+      → isNamed name (getD (modelOf bs .slots) i (freeSlot 0)) ≡ isMatch last name
+  match-test last name l f =
+      ap₂ (λ (live found : ℕ). eqb live 1 and eqb found name) (slot-live ∙ sym l) (slot-name ∙ sym f)
 
 -- ---- the slot that an identifier names
 

@@ -1,4 +1,5 @@
 pub mod Model
 pub mod Searches
 pub mod Answers
+pub mod LastLook
 pub mod CallerAndSlot

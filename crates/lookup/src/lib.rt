@@ -1,4 +1,6 @@
 // What the calls ask of the tables. Nothing here writes.
+pub mod looks;
+
 use rules::Best;
 use semaphore::Semaphore;
 ghost use mathlib.Core.Path.{_≡_};
@@ -7,7 +9,7 @@ ghost use lib.Dec.{ltb, eqb};
 ghost use Rattle.laws.specs.Choose.{_and_, isnt};
 ghost use Rattle.rules.specs.Machine.{next, urgency, slotNamed};
 ghost use Rattle.rules.specs.Semaphore.{ahead, placeOf};
-ghost use Rattle.rules.specs.Calls.{taskOnly, anyCaller, callerRefusal, openSlot, firstNamed};
+ghost use Rattle.rules.specs.Calls.{taskOnly, anyCaller, callerRefusal, openSlot};
 ghost use Rattle.semaphore.specs.Record.{slotFrom};
 ghost use Rattle.tables.specs.Layout.{modelOf};
 ghost use Rattle.tables.specs.Sizes.{Sized};
@@ -113,33 +115,6 @@ pub fn open_slot(m: &[u8]) -> u32
     while i < s {
         let at = i as usize;
         if is_open(tables::slot_live(m, at), tables::slot_generation(m, at)) {
-            return i + 1;
-        }
-        i += 1;
-    }
-    0
-}
-
-// Whether a slot with these words is a live semaphore of that name.
-fn is_named(live: u32, found: u32, name: u32) -> bool
-    ensures { λ r. ⌜ r ≡ (eqb live 1 and eqb found name) ⌝ }
-{
-    if live == 1 {
-        return found == name;
-    }
-    false
-}
-
-// The lowest slot of a live semaphore of that name, or 0.
-pub fn first_named(m: &[u8], name: u32) -> u32
-    requires { ⌜ Sized (now m) ⌝ }
-    ensures { λ r. ⌜ r ≡ firstNamed name (modelOf (now (m .entry)) .slots) 1 ⌝ }
-{
-    let s = tables::slot_count(m);
-    let mut i: u32 = 0;
-    while i < s {
-        let at = i as usize;
-        if is_named(tables::slot_live(m, at), tables::slot_name(m, at), name) {
             return i + 1;
         }
         i += 1;

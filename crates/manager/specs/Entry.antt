@@ -5,7 +5,7 @@ use Rattle.laws.specs.Choose.{choose}
 use Rattle.rules.specs.declared.Call.{Call}
 use Rattle.rules.specs.declared.Answer.{Answer}
 use Rattle.rules.specs.Numbers.{internalError}
-use Rattle.rules.specs.Calls.{perform}
+use Rattle.rules.specs.Calls.{perform, looked}
 use Rattle.tables.specs.Layout.{modelOf}
 use Rattle.agreement.specs.Bytes.{agreesBytes}
 use Rattle.calls.specs.Task.{taskAnswer}
@@ -18,6 +18,10 @@ noNext = record { status = internalError; value = 0; next = 0 }
 -- and are left byte for byte as they were
 unfoldable pub replyTo : List ℕ → Call → List ℕ → Reply
 replyTo bs call priorities = choose (agreesBytes bs) (reply (perform (modelOf bs) call priorities)) (record { answer = noNext; bytes = bs })
+
+-- how many slots an ident's search looks at: none where the bytes do not agree
+unfoldable pub lookedIn : List ℕ → ℕ → ℕ
+lookedIn bs name = choose (agreesBytes bs) (looked (modelOf bs) name) 0
 
 -- a task's answer, with the same test
 unfoldable pub taskReply : List ℕ → ℕ → Answer

@@ -1,11 +1,12 @@
 // The entry points on lent bytes of any length and content. Each tests first that the bytes are tables that agree.
+use calls::ident::Searched;
 use rules::Answer;
 use rules::Call;
 use rules::Wait;
 ghost use mathlib.Core.Path.{_≡_};
 ghost use mathlib.Core.List.{[]};
 ghost use Rattle.rules.specs.declared.Call.the-variants.{Start, Create, Ident, Delete, Obtain, Release, Flush, Tick};
-ghost use Rattle.manager.specs.Entry.{Replied, noNext, replyTo, taskReply};
+ghost use Rattle.manager.specs.Entry.{Replied, noNext, replyTo, lookedIn, taskReply};
 
 // What tables that do not agree are answered.
 pub fn internal_error() -> Answer
@@ -49,8 +50,20 @@ pub fn create(m: &mut [u8], caller: u32, name: u32, count: u32, attributes: u32)
 pub fn ident(m: &[u8], name: u32) -> Answer
     ensures { λ r. ⌜ Replied r (now (m .entry)) (replyTo (now (m .entry)) (Ident name) []) ⌝ }
 {
+    let r = ident_looked(m, name);
+    r.answer
+}
+
+// And how many slots the search looked at.
+pub fn ident_looked(m: &[u8], name: u32) -> Searched
+    ensures replied { λ r. ⌜ Replied (r .answer) (now (m .entry)) (replyTo (now (m .entry)) (Ident name) []) ⌝ }
+    ensures looked { λ r. ⌜ r .looked ≡ lookedIn (now (m .entry)) name ⌝ }
+{
     if !agreement::is_agreeing(m) {
-        return internal_error();
+        return Searched {
+            answer: internal_error(),
+            looked: 0,
+        };
     }
     calls::ident::ident(m, name)
 }

@@ -8,5 +8,6 @@ pub mod Choosing
 pub mod Next
 pub mod Sequence
 pub mod Searching
+pub mod Looking
 pub mod Invariants
 pub mod History

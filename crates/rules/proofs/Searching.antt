@@ -14,9 +14,9 @@ use Rattle.rules.specs.Machine.{Slot, Tables, freeSlot, isLive}
 use Rattle.rules.specs.Calls.{firstFree, openSlot, firstNamed}
 
 -- a search by a test: 0 at the end of the list, and at each slot its number or the rest of the search
-record SearchesBy (look : List Slot → ℕ → ℕ) (test : Slot → Bool) : Type 0 where
-  ends : (n : ℕ) → look [] n ≡ 0
-  steps : (s : Slot) (ss : List Slot) (n : ℕ) → look (s ∷ ss) n ≡ choose (test s) n (look ss (suc n))
+pub record SearchesBy (look : List Slot → ℕ → ℕ) (test : Slot → Bool) : Type 0 where
+  pub ends : (n : ℕ) → look [] n ≡ 0
+  pub steps : (s : Slot) (ss : List Slot) (n : ℕ) → look (s ∷ ss) n ≡ choose (test s) n (look ss (suc n))
 
 -- n is the number of a slot of these that the test holds of, where k slots stand before them
 pub record Hit (test : Slot → Bool) (ss : List Slot) (k n : ℕ) : Type 0 where
@@ -45,9 +45,12 @@ module _ (look : List Slot → ℕ → ℕ) (test : Slot → Bool) (by : Searche
 abbrev pub isOpen : Slot → Bool
 isOpen s = isnt (isLive s) and ltb (s .generation) maxGeneration
 
-pub open-hit : (t : Tables) (n : ℕ) → n ≡ openSlot t → (n ≡ 0 → ⊥) → Hit isOpen (t .slots) 0 n
+pub searches-open : SearchesBy firstFree isOpen
 unfolding firstFree
-open-hit t n e = hit firstFree isOpen (record { ends = λ n. refl; steps = λ s ss n. refl }) (t .slots) 0 n (sym e)
+searches-open = record { ends = λ n. refl; steps = λ s ss n. refl }
+
+pub open-hit : (t : Tables) (n : ℕ) → n ≡ openSlot t → (n ≡ 0 → ⊥) → Hit isOpen (t .slots) 0 n
+open-hit t n e = hit firstFree isOpen searches-open (t .slots) 0 n (sym e)
 
 -- the slot of an ident is live
 abbrev pub isNamed : ℕ → Slot → Bool

@@ -1,8 +1,10 @@
--- P1 to P14 of document 01, and P15 of request 1.
+-- P1 to P14 of document 01, P15 of request 1, and what request 3 counts.
 use mathlib.Core.Path.{_≡_, refl}
 use mathlib.Core.List.{List, [], _∷_, _++_}
 use Prim.Native.Nat.{ℕ}
 use Rattle.rules.specs.declared.Call.the-variants.{Create, Delete, Release, Tick}
+use Rattle.rules.specs.Machine.{Tables, unstarted}
+use Rattle.rules.specs.Calls.{searchedSlots, looked}
 use Rattle.rules.specs.Runs.{Request}
 use Rattle.rules.proofs.Asking.{Line, _gives_, ask, startWith, obtains, says, requests, expected, answersOf, tablesOf, lastOf}
 
@@ -53,3 +55,24 @@ pub P15-leaves : tablesOf (requests equals) ≡ record {
 }
 unfolding answersOf
 P15-leaves = refl
+
+-- ---- request 3: how many slots ident looks at, on a machine of four
+
+-- names 77, 78 and 77 again in slots 1 to 3; then slot 1 is deleted
+abbrev pub three : List Request
+three = startWith 4 (10 ∷ []) ∷ ask (Create 1 77 1 0) ∷ ask (Create 1 78 1 0) ∷ ask (Create 1 77 1 0) ∷ []
+
+abbrev pub two : List Request
+two = three ++ ask (Delete 1 65537) ∷ []
+
+abbrev counts : Tables → List ℕ
+counts t = looked t 77 ∷ looked t 78 ∷ looked t 79 ∷ looked t 0 ∷ []
+
+pub counts-looked : counts (tablesOf three) ++ counts (tablesOf two) ++ counts unstarted
+    ≡ 1 ∷ 2 ∷ 4 ∷ 0 ∷ 3 ∷ 2 ∷ 4 ∷ 0 ∷ 0 ∷ 0 ∷ 0 ∷ 0 ∷ []
+unfolding answersOf looked
+counts-looked = refl
+
+pub slots-looked-at : searchedSlots 77 (tablesOf two .slots) 1 ≡ 1 ∷ 2 ∷ 3 ∷ []
+unfolding answersOf searchedSlots
+slots-looked-at = refl

@@ -138,6 +138,17 @@ ident t name =
     let n = firstNamed name (t .slots) 1 in
     unless (choose (eqb name 0 or eqb n 0) invalidName 0) t (answered successful (idOf n (slotOf t n)) t)
 
+-- the slots that its search for a name other than 0 looks at, from slot n on: each in turn, and none after the match
+unfoldable pub searchedSlots : ℕ → List Slot → ℕ → List ℕ
+searchedSlots name [] n = []
+searchedSlots name (s ∷ ss) n = let later = searchedSlots name ss (suc n) in n ∷ choose (isLive s and eqb (s .name) name) [] later
+
+-- how many it looks at: the match's slot number, or S if none matches; with name 0 it does not search
+unfoldable pub looked : Tables → ℕ → ℕ
+looked t name =
+    let n = firstNamed name (t .slots) 1 in
+    choose (eqb name 0) 0 (choose (eqb n 0) (length (t .slots)) n)
+
 -- ---- delete: 18, 4, 14, then 4, 12
 
 unfoldable pub deleteRefusal : Tables → ℕ → ℕ → ℕ

@@ -10,7 +10,7 @@ use lib.Seq.{length-take-le, getD-take}
 use Rattle.laws.specs.Rows.{fit, tabulate}
 use Rattle.laws.proofs.Fit.{length-fit, getD-fit, take-fit, length-tabulate, getD-tabulate, tabulate-is, tabulate-same, tabulate-getD}
 use Rattle.words.specs.Words.{wordAt}
-use Rattle.words.proofs.WordsInBytes.{Bytes, Words, words-within, words-below, length-bytesOf, wordAt-bytesOf, wordAt-below}
+use Rattle.words.proofs.WordsInBytes.{Bytes, Words, words-within, words-below, length-bytesOf, wordAt-bytesOf, wordAt-below, wordAt-cut}
 use Rattle.rules.specs.declared.Task.{Task}
 use Rattle.rules.specs.Machine.{Slot, Tables, noTask, freeSlot, taskOf}
 use Rattle.rules.specs.Semaphore.{requeued}
@@ -64,6 +64,13 @@ module _ (bs : List ℕ) (i : ℕ) where
 
   pub queue-places : length (recordAt bs i .queue) ≡ 32
   queue-places = omega (arith, ap length (slot-row bs i), length-tabulate 40 (λ j. wordAt bs (slotPlace i + j)))
+
+-- a slot's record is the same in bytes that are cut behind its row
+pub record-cut : (bs : List ℕ) (n i : ℕ) → 4 * slotPlace (i + 1) ≤ n → recordAt (take n bs) i ≡ recordAt bs i
+unfolding recordAt
+record-cut bs n i h =
+    ap (λ (row : List ℕ). recordFrom row)
+    (tabulate-same 40 (λ k. wordAt (take n bs) (slotPlace i + k)) (λ k. wordAt bs (slotPlace i + k)) (λ k l. wordAt-cut bs n (slotPlace i + k) (omega arith)))
 
 -- the places of the sequence of ready tasks
 module _ (bs : List ℕ) where

@@ -101,7 +101,7 @@ fn task_word(m: &[u8], i: usize, k: usize) -> u32
 }
 
 fn slot_word(m: &[u8], i: usize, k: usize) -> u32
-    requires { ⌜ (length (now m) ≡ tablesLength) × (i < 64) × (k < 40) ⌝ }
+    requires { ⌜ (4 * (slotPlace i + k) + 4 ≤ length (now m)) × (i < 64) × (k < 40) ⌝ }
     ensures { λ r. ⌜ r ≡ getD (recordRow (recordAt (now (m .entry)) i)) k 0 ⌝ }
 {
     words::word(m, SLOTS_AT + SLOT_WORDS * i + k)
@@ -127,23 +127,23 @@ pub fn store_task(m: &mut [u8], i: usize, v: Task)
     words::set_words(m, TASKS_AT + TASK_WORDS * i, &row);
 }
 
-// One word of a slot, for those who need no more of it.
+// One word of a slot, for those who need no more of it. For the first three no byte behind the slot need be there.
 pub fn slot_generation(m: &[u8], i: usize) -> u32
-    requires { ⌜ (length (now m) ≡ tablesLength) × (i < 64) ⌝ }
+    requires { ⌜ (4 * slotPlace (i + 1) ≤ length (now m)) × (i < 64) ⌝ }
     ensures { λ r. ⌜ r ≡ recordAt (now (m .entry)) i .generation ⌝ }
 {
     slot_word(m, i, GENERATION)
 }
 
 pub fn slot_live(m: &[u8], i: usize) -> u32
-    requires { ⌜ (length (now m) ≡ tablesLength) × (i < 64) ⌝ }
+    requires { ⌜ (4 * slotPlace (i + 1) ≤ length (now m)) × (i < 64) ⌝ }
     ensures { λ r. ⌜ r ≡ recordAt (now (m .entry)) i .live ⌝ }
 {
     slot_word(m, i, LIVE)
 }
 
 pub fn slot_name(m: &[u8], i: usize) -> u32
-    requires { ⌜ (length (now m) ≡ tablesLength) × (i < 64) ⌝ }
+    requires { ⌜ (4 * slotPlace (i + 1) ≤ length (now m)) × (i < 64) ⌝ }
     ensures { λ r. ⌜ r ≡ recordAt (now (m .entry)) i .name ⌝ }
 {
     slot_word(m, i, NAME)

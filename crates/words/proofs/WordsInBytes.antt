@@ -7,8 +7,8 @@ use native.Mathlib.Nat.{not-suc-le-zero}
 use native.Mathlib.Decide.{decLt}
 use native.Mathlib.Omega.{arith}
 use lib.Dec.{eqb}
-use lib.ListN.{length, getD, set, length-set, replicate, replicate-append-replicate, List·getD-eq-default}
-use lib.Seq.{sets}
+use lib.ListN.{length, getD, set, take, length-set, replicate, replicate-append-replicate, List·getD-eq-default}
+use lib.Seq.{sets, getD-take}
 use borrow.Author.Tests.{eq-eqb, eqb-true}
 use Rattle.laws.proofs.All.{all-at, all-of}
 use Rattle.laws.specs.Rows.{tabulate}
@@ -79,6 +79,13 @@ wordAt-bytesOf (w ∷ ws) h (suc i) =
 pub wordAt-below : (bs : List ℕ) → Bytes bs → (i : ℕ) → wordAt bs i < 4294967296
 unfolding wordAt
 wordAt-below bs h i = omega (arith, h (4 * i), h (4 * i + 1), h (4 * i + 2), h (4 * i + 3))
+
+-- a word is the same in bytes that are cut behind it
+pub wordAt-cut : (bs : List ℕ) (n i : ℕ) → 4 * i + 4 ≤ n → wordAt (take n bs) i ≡ wordAt bs i
+unfolding wordAt
+wordAt-cut bs n i h =
+    let at : (k : ℕ) → k < n → getD (take n bs) k 0 ≡ getD bs k 0 = λ k l. getD-take n bs k 0 l in
+    rw (at (4 * i) (omega arith), at (4 * i + 1) (omega arith), at (4 * i + 2) (omega arith), at (4 * i + 3) (omega arith)) refl
 
 -- the top byte is not reduced, so words are below 2 ^ 32 exactly where their bytes are bytes
 pub words-below : (ws : List ℕ) → Bytes (bytesOf ws) → Words ws

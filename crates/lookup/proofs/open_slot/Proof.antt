@@ -8,7 +8,8 @@ use Rattle.words.specs.Words.{wordAt}
 use Rattle.rules.specs.Calls.{firstFree}
 use Rattle.tables.specs.Layout.{modelOf}
 use Rattle.lookup.proofs.Model.{length-slots}
-use Rattle.lookup.proofs.Searches.{LookFrom, isOpen, searches-open, look-found, look-more, look-all}
+use Rattle.rules.proofs.Searching.{isOpen, searches-open}
+use Rattle.lookup.proofs.Searches.{LookFrom, look-found, look-more, look-all}
 use Rattle.lookup.proofs.Answers.{open-test}
 use Rattle.lookup.proofs.open_slot.Statement.{statement}
 use Rattle.lookup.proofs.open_slot.Tie as tie

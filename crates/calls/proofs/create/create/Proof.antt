@@ -61,7 +61,9 @@ cast-slot-generation : tie.Need-cast-slot-generation
 cast-slot-generation c = search needs
 
 slot-generation-requires : tie.Need-slot-generation-requires
-slot-generation-requires c κs = (sized (start (c .before) .pre) .long, omega (arith, found (c .before) .low, found (c .before) .most))
+slot-generation-requires c κs =
+    let f = found (c .before) in
+    (omega (arith, sized (start (c .before) .pre) .long, f .low, f .most), omega (arith, f .low, f .most))
 
 created-requires : tie.Need-created-requires
 created-requires c κs = young c
