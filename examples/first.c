@@ -14,6 +14,7 @@
 #define UNMASK() ((void)0)
 
 enum { IDLE, RADIO, LOGGER, TASKS = LOGGER };
+enum { BUFFERS = 8 }; /* the radio has no room for more frames, so no more are counted */
 
 static uint8_t tables[MAST_TABLES_LENGTH]; /* all zeros: not started */
 static ucontext_t contexts[TASKS + 1];     /* registers and stack: the idle loop's, each task's */
@@ -99,9 +100,9 @@ int main(void)
     MASK();
     next = mast_start(tables, sizeof tables, 2, priorities, TASKS).next;
     frames = mast_create(tables, sizeof tables, RADIO, mast_build_name('F', 'R', 'M', 'S'), 0,
-                         MAST_COUNTING_SEMAPHORE | MAST_FIFO).value;
+                         MAST_COUNTING_SEMAPHORE | MAST_FIFO, BUFFERS).value;
     entries = mast_create(tables, sizeof tables, RADIO, mast_build_name('E', 'N', 'T', 'R'), 0,
-                          MAST_COUNTING_SEMAPHORE | MAST_FIFO).value;
+                          MAST_COUNTING_SEMAPHORE | MAST_FIFO, MAST_MAXIMUM_COUNT).value;
     prepare(RADIO, radio);
     prepare(LOGGER, logger);
     switch_to(next);

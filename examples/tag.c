@@ -7,7 +7,7 @@
  * With no task ready the tag sleeps until an interrupt, which here comes from a list. On a board
  * handlers break in anywhere, so a task masks interrupts around each call.
  *
- *     packets  counting        the radio's interrupt releases it once for each packet
+ *     packets  counting        the radio's interrupt releases it once for each packet, of which it keeps 4
  *     entries  counting        the radio releases it once for each entry to be logged
  *     redraw   simple binary   the radio asks for a redraw; asking twice is once
  *     bus      binary          owned by the task that uses the bus; the most urgent waits least
@@ -26,6 +26,7 @@
 #define INTERRUPT 0      /* the caller of a call made by an interrupt */
 #define SLOTS 6
 #define FLASH_TIMEOUT 3  /* ticks */
+#define PACKETS 4        /* a packet more is lost, and `packets` does not count it */
 
 enum { RADIO = 1, DISPLAY, LOGGER, TASKS = LOGGER };
 
@@ -102,11 +103,11 @@ static mast_answer expect(mast_answer answer)
     return answer;
 }
 
-static mast_id create(const struct task *self, mast_name name, uint32_t count, uint32_t attributes)
+static mast_id create(const struct task *self, mast_name name, uint32_t count, uint32_t attributes, uint32_t maximum)
 {
     mast_answer answer;
     MASK();
-    answer = expect(mast_create(tables, sizeof tables, self->number, name, count, attributes));
+    answer = expect(mast_create(tables, sizeof tables, self->number, name, count, attributes, maximum));
     UNMASK();
     return answer.value;
 }
@@ -157,12 +158,12 @@ static void create_semaphores(const struct task *self)
     const uint32_t simple = MAST_SIMPLE_BINARY_SEMAPHORE | MAST_FIFO;
     const uint32_t binary = MAST_BINARY_SEMAPHORE | MAST_PRIORITY;
 
-    packets = create(self, mast_build_name('P', 'K', 'T', 'S'), 0, counting);
-    entries = create(self, mast_build_name('E', 'N', 'T', 'R'), 0, counting);
-    create(self, mast_build_name('D', 'R', 'A', 'W'), 0, simple);
-    bus = create(self, mast_build_name('B', 'U', 'S', ' '), 1, binary);
-    flash = create(self, mast_build_name('F', 'L', 'S', 'H'), 0, simple);
-    halt = create(self, mast_build_name('H', 'A', 'L', 'T'), 0, counting);
+    packets = create(self, mast_build_name('P', 'K', 'T', 'S'), 0, counting, PACKETS);
+    entries = create(self, mast_build_name('E', 'N', 'T', 'R'), 0, counting, MAST_MAXIMUM_COUNT);
+    create(self, mast_build_name('D', 'R', 'A', 'W'), 0, simple, 1);
+    bus = create(self, mast_build_name('B', 'U', 'S', ' '), 1, binary, 1);
+    flash = create(self, mast_build_name('F', 'L', 'S', 'H'), 0, simple, 1);
+    halt = create(self, mast_build_name('H', 'A', 'L', 'T'), 0, counting, 1);
 }
 
 /* Deleting what the others wait on tells them to finish; its identifier is never valid again. */

@@ -9,7 +9,7 @@
  *     static const uint32_t priorities[] = { 10, 20 };         (task 1 and task 2)
  *
  *     mast_answer answer = mast_start(tables, sizeof tables, 4, priorities, 2);
- *     answer = mast_create(tables, sizeof tables, 1, 77, 1, MAST_BINARY_SEMAPHORE | MAST_PRIORITY);
+ *     answer = mast_create(tables, sizeof tables, 1, 77, 1, MAST_BINARY_SEMAPHORE | MAST_PRIORITY, 1);
  *     mast_id bus = answer.value;
  *     answer = mast_obtain(tables, sizeof tables, 2, bus, MAST_WAIT, MAST_NO_TIMEOUT);
  *
@@ -48,11 +48,11 @@
  *     word 1              S, the number of slots
  *     words 2 to 129      four for each of 32 tasks: priority, answer, identifier waited on, ticks
  *                         left
- *     words 130 to 2689   forty for each of 64 slots: generation, live (0 or 1), name, attributes,
- *                         count, owner, nest, queue length, and 32 of the queue (task numbers, the
- *                         first to be served first)
- *     word 2690           how many tasks are ready
- *     words 2691 to 2722  the sequence of the ready tasks (task numbers, the longest ready first)
+ *     words 130 to 2753   41 for each of 64 slots: generation, live (0 or 1), name, attributes,
+ *                         count, owner, nest, maximum, queue length, and 32 of the queue (task
+ *                         numbers, the first to be served first)
+ *     word 2754           how many tasks are ready
+ *     words 2755 to 2786  the sequence of the ready tasks (task numbers, the longest ready first)
  * What lies beyond N, S or the length of a queue or the sequence is 0, and so is a free slot but for
  * its generation.
  * Every call tests the whole of the tables first: MAST_INTERNAL_ERROR says that the memory has
@@ -63,19 +63,22 @@
  * and mast_load reads it on a machine that is not started. It is a table of contents and four bodies,
  * all of numbers of four bytes, high byte first; offsets, from the file's start, and lengths are in
  * bytes:
- *     contents            edition 1, the number of bodies 4, then kind, offset and length of each
+ *     contents            edition 2, the number of bodies 4, then kind, offset and length of each
  *                         body: 14 numbers, so the first body is at byte 56
  *     body of kind 1      four for each of N tasks: priority, answer, identifier waited on or 0,
  *                         ticks left
- *     body of kind 2      seven for each of S slots: generation, live (0 or 1), name, attributes,
- *                         count, owner, nest
+ *     body of kind 2      eight for each of S slots: generation, live (0 or 1), name, attributes,
+ *                         count, owner, nest, maximum
  *     body of kind 3      for each of S slots: queue length, then as many task numbers, the first to
  *                         be served first
  *     body of kind 4      the sequence of the ready tasks (task numbers, the longest ready first)
  * The bodies stand in this order without gaps, and nothing follows the last. The lengths of the first
- * two say N and S, that of the last how many tasks are ready; the whole is 56 + 20 * N + 32 * S bytes.
+ * two say N and S, that of the last how many tasks are ready; the whole is 56 + 20 * N + 36 * S bytes.
  * mast_load accepts exactly the files that mast_save writes of some started tables that are not
- * damaged, byte for byte, whether or not calls could lead to such tables, and gives back those tables.
+ * damaged, byte for byte, whether or not calls could lead to such tables, and those of edition 1, and
+ * gives back those tables. Edition 1, which mast_save does not write, has 1 as its first number and
+ * no maximum, so seven numbers a slot: live slots get MAST_MAXIMUM_COUNT if counting and 1 if not, and
+ * the tables so made must not be damaged either.
  */
 #ifndef MASTCLOVER_H
 #define MASTCLOVER_H
@@ -88,16 +91,19 @@ extern "C" {
 #endif
 
 /* The length in bytes of the tables; no other length is accepted. */
-#define MAST_TABLES_LENGTH 10892
+#define MAST_TABLES_LENGTH 11148
 
 /* The length in bytes of the longest state file, that of 32 tasks and 64 slots. */
-#define MAST_STATE_MAXIMUM 2744
+#define MAST_STATE_MAXIMUM 3000
 
 /* The limits of mast_start. */
 #define MAST_MAXIMUM_TASKS 32
 #define MAST_MAXIMUM_SLOTS 64
 #define MAST_MINIMUM_PRIORITY 1   /* the most urgent, as in RTEMS */
 #define MAST_MAXIMUM_PRIORITY 255
+
+/* The greatest maximum of mast_create: as high as a count goes. */
+#define MAST_MAXIMUM_COUNT 4294967295u
 
 /* Statuses, with the names and numbers of RTEMS (RTEMS_SUCCESSFUL and so on). */
 #define MAST_SUCCESSFUL 0             /* done; a task's answer: it got it, or never waited */
@@ -107,7 +113,7 @@ extern "C" {
 #define MAST_TIMEOUT 6                /* a task's answer only: its ticks ran out */
 #define MAST_OBJECT_WAS_DELETED 7     /* a task's answer only: the semaphore was deleted */
 #define MAST_INVALID_SIZE 8           /* a buffer too short for the state file; no valid one */
-#define MAST_INVALID_NUMBER 10        /* a count above 1 for a binary class; N or S out of limits */
+#define MAST_INVALID_NUMBER 10        /* a maximum not allowed, a count above it; N or S out of limits */
 #define MAST_NOT_DEFINED 11           /* attributes that are not offered; mast_run */
 #define MAST_RESOURCE_IN_USE 12       /* the binary semaphore has an owner */
 #define MAST_UNSATISFIED 13           /* not to be had, at its maximum; a task's answer: flushed */
@@ -122,7 +128,7 @@ extern "C" {
 #define MAST_DEFAULT_ATTRIBUTES 0       /* FIFO, counting */
 #define MAST_FIFO 0                     /* waiters are served by arrival */
 #define MAST_PRIORITY 4                 /* waiters are served by priority, equals by arrival */
-#define MAST_COUNTING_SEMAPHORE 0       /* a count up to 4294967295, released by anyone */
+#define MAST_COUNTING_SEMAPHORE 0       /* a count up to its maximum, released by anyone */
 #define MAST_BINARY_SEMAPHORE 16        /* has an owner, who may nest and who alone may release */
 #define MAST_SIMPLE_BINARY_SEMAPHORE 32 /* a count of 0 or 1, no owner, released by anyone */
 
@@ -179,20 +185,22 @@ mast_answer mast_start(uint8_t *tables, size_t length, uint32_t slots, const uin
 /*
  * Makes a semaphore in the lowest free slot whose generation is below 65535, the only ones that are
  * used again; its identifier is the value. Several may have the same name. `count` is how often it
- * can be obtained at first. A binary semaphore made with count 0 is owned by the caller, once. Not
- * from an interrupt.
+ * can be obtained at first. `maximum` is the count at which mast_release is refused: 1 to
+ * MAST_MAXIMUM_COUNT for a counting semaphore, and 1 for both others. A binary semaphore made with
+ * count 0 is owned by the caller, once. Not from an interrupt.
+ *
  *   MAST_INTERNAL_ERROR    the tables are damaged or have the wrong length
  *   MAST_CALLED_FROM_ISR   caller 0
  *   MAST_INVALID_ID        no such caller
  *   MAST_INCORRECT_STATE   the caller is waiting
  *   MAST_INVALID_NAME      name 0
  *   MAST_NOT_DEFINED       attributes other than one order and one class
- *   MAST_INVALID_NUMBER    a count above 1 for a binary or simple binary semaphore
+ *   MAST_INVALID_NUMBER    a maximum that the class does not allow, or a count above the maximum
  *   MAST_TOO_MANY          no free slot with a generation below 65535
  *   MAST_SUCCESSFUL        value: the identifier
  */
 mast_answer mast_create(uint8_t *tables, size_t length, uint32_t caller, mast_name name,
-                        uint32_t count, uint32_t attributes);
+                        uint32_t count, uint32_t attributes, uint32_t maximum);
 
 /*
  * Finds the live semaphore of that name in the lowest slot; its identifier is the value. From
@@ -256,7 +264,7 @@ mast_answer mast_obtain(uint8_t *tables, size_t length, uint32_t caller, mast_id
  *   MAST_INCORRECT_STATE   the caller is waiting
  *   MAST_INVALID_ID        no live semaphore has the identifier
  *   MAST_NOT_OWNER_OF_RESOURCE  a binary semaphore that the caller does not own; caller 0 owns none
- *   MAST_UNSATISFIED       the count is at its maximum: 4294967295, or 1 for a simple binary one
+ *   MAST_UNSATISFIED       the count is at the maximum that create was given
  *   MAST_SUCCESSFUL
  */
 mast_answer mast_release(uint8_t *tables, size_t length, uint32_t caller, mast_id id);
@@ -344,7 +352,7 @@ mast_answer mast_load(uint8_t *tables, size_t length, const uint8_t *file, size_
  * count, all other numbers in the order of the calls' arguments:
  *     MAST_EVENT_TURN     task              the task's obtain, its next step or its release
  *     MAST_EVENT_START    slots, count, then as many priorities
- *     MAST_EVENT_CREATE   caller, name, count, attributes
+ *     MAST_EVENT_CREATE   caller, name, count, attributes, maximum
  *     MAST_EVENT_IDENT    name
  *     MAST_EVENT_DELETE   caller, id
  *     MAST_EVENT_OBTAIN   caller, id, options, timeout

@@ -25,7 +25,7 @@ int main(void)
         priorities[i] = i % 7 + 1;
     mast_start(tables, sizeof tables, 64, priorities, 32);
     for (i = 0; i < 64; i++)
-        mast_create(tables, sizeof tables, 1, i % 10 + 1, 1, attributes[i % 6]);
+        mast_create(tables, sizeof tables, 1, i % 10 + 1, 1, attributes[i % 6], i % 6 < 2 ? MAST_MAXIMUM_COUNT : 1);
     for (round = 0; round < ROUNDS; round++) {
         double began = now();
         for (i = 0; i < CALLS; i++)

@@ -13,8 +13,8 @@ import tempfile
 top = pathlib.Path(__file__).resolve().parent.parent
 NUMBERS = top / "crates/rules/specs/Numbers.antt"
 SPECS = {name: (top / f"crates/{name}/specs") for name in ("rules", "tables", "sections", "encoding", "state")}
-# No call takes a generation, and every 32-bit number is one: these limits have no macro.
-UNNAMED = {"maxGeneration", "maxNumber"}
+# No call takes a generation: this limit has no macro.
+UNNAMED = {"maxGeneration"}
 
 
 # ---- the definitions
@@ -68,6 +68,7 @@ def expected():
         "MAST_MAXIMUM_SLOTS": number("maxSlots"),
         "MAST_MINIMUM_PRIORITY": int(re.search(r"within (\d+) maxPriority", body("startRefusal"))[1]),
         "MAST_MAXIMUM_PRIORITY": number("maxPriority"),
+        "MAST_MAXIMUM_COUNT": number(re.search(r"(\w+)\s*$", body("classMaximum"))[1]),
     }
     statuses = {f"MAST_{snake(name)}": number(name) for name in defined() if not name.startswith("max")}
     binary, simple, ordered = (set(literals(n)) for n in ("isBinary", "isSimple", "byPriority"))

@@ -47,7 +47,7 @@ static mast_answer found(mast_id id)
 
 static mast_id create(mast_name name)
 {
-    return mast_create(tables, sizeof tables, 1, name, 0, MAST_COUNTING_SEMAPHORE | MAST_FIFO).value;
+    return mast_create(tables, sizeof tables, 1, name, 0, MAST_COUNTING_SEMAPHORE | MAST_FIFO, MAST_MAXIMUM_COUNT).value;
 }
 
 static void ask_of_three(const mast_answer none)

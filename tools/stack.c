@@ -18,9 +18,9 @@ static const char *const names[FUNCTIONS] = {
 static size_t most[FUNCTIONS];
 static int ran;
 
-/* The call to be made: a context's entry takes no arguments. */
+/* The call to be made: a context's entry takes no arguments. Only a create has the fifth number, its maximum. */
 static enum function function;
-static uint32_t a, b, c, d;
+static uint32_t a, b, c, d, e;
 
 /* Tasks 2 and 3 take turns in sections on identifier 65537, among every other call. */
 static void run_sections(void)
@@ -31,7 +31,7 @@ static void run_sections(void)
     };
     static const uint32_t events[] = {
         MAST_EVENT_TURN, 2, MAST_EVENT_TURN, 3, MAST_EVENT_START, 1, 2, 3, 4, MAST_EVENT_TURN, 2, MAST_EVENT_TICK,
-        MAST_EVENT_CREATE, 1, 9, 0, MAST_PRIORITY, MAST_EVENT_OBTAIN, 4, 65538, MAST_WAIT, 2, MAST_EVENT_OBTAIN, 5, 65538, MAST_WAIT, 1,
+        MAST_EVENT_CREATE, 1, 9, 0, MAST_PRIORITY, 3, MAST_EVENT_OBTAIN, 4, 65538, MAST_WAIT, 2, MAST_EVENT_OBTAIN, 5, 65538, MAST_WAIT, 1,
         MAST_EVENT_IDENT, 9, MAST_EVENT_TICK, MAST_EVENT_FLUSH, 0, 65538, MAST_EVENT_RELEASE, 1, 65538, MAST_EVENT_DELETE, 1, 65538,
         MAST_EVENT_TURN, 2, MAST_EVENT_TURN, 2, MAST_EVENT_TURN, 3, MAST_EVENT_TURN, 3, MAST_EVENT_TURN, 3,
     };
@@ -52,7 +52,7 @@ static void call(void)
     static const uint32_t priorities[] = { 1, 2, 3, 3, 2, 1, 9, 8 };
     switch (function) {
     case START: mast_start(tables, sizeof tables, a, priorities, 8); break;
-    case CREATE: mast_create(tables, sizeof tables, a, b, c, d); break;
+    case CREATE: mast_create(tables, sizeof tables, a, b, c, d, e); break;
     case IDENT: mast_ident(tables, sizeof tables, a); break;
     case IDENT_LOOKED: mast_ident_looked(tables, sizeof tables, a, &looked); break;
     case DELETE: mast_delete(tables, sizeof tables, a, b); break;
@@ -92,6 +92,7 @@ int main(void)
     run(START, 4, 0, 0, 0);
     for (round = 0; round < 4; round++) {
         uint32_t id = (round + 1) * 65536 + 1;
+        e = round == 1 ? 1 : MAST_MAXIMUM_COUNT;
         run(CREATE, 1, 7, round % 2, round == 1 ? MAST_BINARY_SEMAPHORE | MAST_PRIORITY : MAST_PRIORITY);
         run(IDENT, 7, 0, 0, 0);
         run(IDENT_LOOKED, 7, 0, 0, 0);
@@ -107,6 +108,7 @@ int main(void)
     }
     memset(tables, 0, sizeof tables);
     run(START, 4, 0, 0, 0);
+    e = 1;
     run(CREATE, 1, 7, 1, MAST_BINARY_SEMAPHORE | MAST_PRIORITY);
     run(RUN, 0, 0, 0, 0);
     if (!ran) {

@@ -1,10 +1,12 @@
 //! A call, its answer, and what can serve it.
 
+use crate::status::greatest_maximum;
+
 /// One call on the manager, with its numbers as handed in.
 #[derive(Clone, Debug, PartialEq, Eq)]
 pub enum Call {
     Start { slots: u32, priorities: Vec<u32> },
-    Create { caller: u32, name: u32, count: u32, attributes: u32 },
+    Create { caller: u32, name: u32, count: u32, attributes: u32, maximum: u32 },
     Ident { name: u32 },
     Delete { caller: u32, id: u32 },
     Obtain { caller: u32, id: u32, options: u32, timeout: u32 },
@@ -19,6 +21,11 @@ pub const KINDS: [&str; 9] =
     ["start", "create", "ident", "delete", "obtain", "release", "flush", "tick", "task"];
 
 impl Call {
+    /// A create with the greatest maximum of its class.
+    pub fn create(caller: u32, name: u32, count: u32, attributes: u32) -> Self {
+        Call::Create { caller, name, count, attributes, maximum: greatest_maximum(attributes) }
+    }
+
     /// The call's place in `KINDS`.
     pub fn kind(&self) -> usize {
         match self {

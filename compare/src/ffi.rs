@@ -26,6 +26,7 @@ unsafe extern "C" {
         name: u32,
         count: u32,
         attributes: u32,
+        maximum: u32,
     ) -> MastAnswer;
     fn mast_ident(tables: *const u8, length: usize, name: u32) -> MastAnswer;
     fn mast_ident_looked(tables: *const u8, length: usize, name: u32, looked: *mut u32) -> MastAnswer;
@@ -78,8 +79,16 @@ pub fn start(tables: &mut [u8], slots: u32, priorities: &[u32]) -> Answer {
     unsafe { mast_start(tables.as_mut_ptr(), tables.len(), slots, first, priorities.len()) }.into()
 }
 
-pub fn create(tables: &mut [u8], caller: u32, name: u32, count: u32, attributes: u32) -> Answer {
-    unsafe { mast_create(tables.as_mut_ptr(), tables.len(), caller, name, count, attributes) }.into()
+pub fn create(
+    tables: &mut [u8],
+    caller: u32,
+    name: u32,
+    count: u32,
+    attributes: u32,
+    maximum: u32,
+) -> Answer {
+    unsafe { mast_create(tables.as_mut_ptr(), tables.len(), caller, name, count, attributes, maximum) }
+        .into()
 }
 
 pub fn ident(tables: &[u8], name: u32) -> Answer {
@@ -154,7 +163,7 @@ impl Guarded {
         &mut self.numbers[Self::WIDTH..end]
     }
 
-    fn put_back(mut self, numbers: &mut Vec<u32>) {
+    fn put_back(mut self, numbers: &mut [u32]) {
         numbers.copy_from_slice(self.middle());
         let (guard, end) = (self.guard, self.numbers.len() - Self::WIDTH);
         let mut around = self.numbers[..Self::WIDTH].iter().chain(&self.numbers[end..]);
@@ -203,8 +212,8 @@ impl Manager for Library {
     fn call(&mut self, tables: &mut [u8], call: &Call) -> Answer {
         match *call {
             Call::Start { slots, ref priorities } => start(tables, slots, priorities),
-            Call::Create { caller, name, count, attributes } => {
-                create(tables, caller, name, count, attributes)
+            Call::Create { caller, name, count, attributes, maximum } => {
+                create(tables, caller, name, count, attributes, maximum)
             }
             Call::Ident { name } => ident(tables, name),
             Call::Delete { caller, id } => delete(tables, caller, id),

@@ -159,18 +159,27 @@ pub fn start(words: &mut Words, slots: u32, priorities: &[u32]) -> Answer {
     answer(words, SUCCESSFUL, 0)
 }
 
-fn refuse_new(name: u32, count: u32, attributes: u32) -> Option<u32> {
+fn refuse_new(name: u32, count: u32, attributes: u32, maximum: u32) -> Option<u32> {
     if name == 0 {
         return Some(INVALID_NAME);
     }
     if !matches!(attributes, 0 | 4 | 16 | 20 | 32 | 36) {
         return Some(NOT_DEFINED);
     }
-    (attributes > PRIORITY && count > 1).then_some(INVALID_NUMBER)
+    let no_maximum = maximum == 0 || (attributes > PRIORITY && maximum != 1);
+    (no_maximum || count > maximum).then_some(INVALID_NUMBER)
 }
 
-pub fn create(words: &mut Words, caller: u32, name: u32, count: u32, attributes: u32) -> Answer {
-    let refused = refuse_caller(words, caller, false).or_else(|| refuse_new(name, count, attributes));
+pub fn create(
+    words: &mut Words,
+    caller: u32,
+    name: u32,
+    count: u32,
+    attributes: u32,
+    maximum: u32,
+) -> Answer {
+    let refused =
+        refuse_caller(words, caller, false).or_else(|| refuse_new(name, count, attributes, maximum));
     if let Some(refusal) = refused {
         return answer(words, refusal, 0);
     }
@@ -188,6 +197,7 @@ pub fn create(words: &mut Words, caller: u32, name: u32, count: u32, attributes:
     set(words, at + NAME, name);
     set(words, at + ATTRIBUTES, attributes);
     set(words, at + COUNT, count);
+    set(words, at + MAXIMUM, maximum);
     if attributes & BINARY != 0 && count == 0 {
         set(words, at + OWNER, caller);
         set(words, at + NEST, 1);
@@ -267,8 +277,7 @@ pub fn release(words: &mut Words, caller: u32, id: u32) -> Answer {
         Ok(at) => at,
         Err(refusal) => return answer(words, refusal, 0),
     };
-    let attributes = get(words, at + ATTRIBUTES);
-    let binary = attributes & BINARY != 0;
+    let binary = get(words, at + ATTRIBUTES) & BINARY != 0;
     if binary && (caller == 0 || get(words, at + OWNER) != caller) {
         return answer(words, NOT_OWNER_OF_RESOURCE, 0);
     }
@@ -287,8 +296,7 @@ pub fn release(words: &mut Words, caller: u32, id: u32) -> Answer {
         return answer(words, SUCCESSFUL, 0);
     }
     let count = get(words, at + COUNT);
-    let most = if attributes & SIMPLE_BINARY != 0 { 1 } else { u32::MAX };
-    if count == most {
+    if count == get(words, at + MAXIMUM) {
         return answer(words, UNSATISFIED, 0);
     }
     set(words, at + COUNT, count + 1);

@@ -4,7 +4,7 @@ use crate::call::{Answer, Call, Manager};
 use crate::model::{split_attributes, Machine, Semaphore, Slot, State, Task};
 use crate::status::*;
 
-/// Words of the tables: N, S, 32 tasks of four, 64 slots of forty, the ready sequence's length and its 32 places.
+/// Words of the tables: N, S, 32 tasks of four, 64 slots of forty-one, the ready sequence's length and its 32 places.
 pub const WORDS: usize = SEQUENCE + MOST_TASKS;
 /// Bytes that the caller lends.
 pub const LENGTH: usize = WORDS * 4;
@@ -35,12 +35,13 @@ pub const ATTRIBUTES: usize = 3;
 pub const COUNT: usize = 4;
 pub const OWNER: usize = 5;
 pub const NEST: usize = 6;
-pub const QUEUED: usize = 7;
-pub const QUEUE: usize = 8;
+pub const MAXIMUM: usize = 7;
+pub const QUEUED: usize = 8;
+pub const QUEUE: usize = 9;
 
 const TASK_FIELDS: [&str; TASK_WORDS] = ["priority", "answer", "identifier waited on", "ticks left"];
 const SLOT_FIELDS: [&str; QUEUE] =
-    ["generation", "live", "name", "attributes", "count", "owner", "nest", "queue length"];
+    ["generation", "live", "name", "attributes", "count", "owner", "nest", "maximum", "queue length"];
 
 /// The word at `index` of bytes that reach that far.
 pub fn word(bytes: &[u8], index: usize) -> u32 {
@@ -108,7 +109,7 @@ pub fn write_into(machine: &Machine, bytes: &mut [u8]) {
         set_word(bytes, at + GENERATION, slot.generation);
         if let Some(live) = &slot.live {
             let length = live.queue.len() as u32;
-            let state = [live.count, live.owner, live.nest, length];
+            let state = [live.count, live.owner, live.nest, live.maximum, length];
             set_words(bytes, at + LIVE, &[1, live.name, live.attributes()]);
             set_words(bytes, at + COUNT, &state);
             set_words(bytes, at + QUEUE, &live.queue);
@@ -150,6 +151,20 @@ pub fn read_with_sequence_mended(bytes: &[u8]) -> Option<Machine> {
     let ready: Vec<u32> = (1..=word(bytes, TASKS)).filter(|&number| !waits(number)).collect();
     let mut mended = bytes.to_vec();
     set_sequence(&mut mended, &ready);
+    read(&mended)
+}
+
+/// The machine of bytes whose maxima are made the greatest of their class, or nothing if they do not agree even so.
+pub fn read_with_maxima_mended(bytes: &[u8]) -> Option<Machine> {
+    if bytes.len() != LENGTH {
+        return None;
+    }
+    let mut mended = bytes.to_vec();
+    for at in (0..MOST_SLOTS).map(slot_at) {
+        let live = word(bytes, at + LIVE) != 0;
+        let maximum = if live { greatest_maximum(word(bytes, at + ATTRIBUTES)) } else { 0 };
+        set_word(&mut mended, at + MAXIMUM, maximum);
+    }
     read(&mended)
 }
 
@@ -200,6 +215,7 @@ fn read_semaphore(bytes: &[u8], at: usize) -> Option<Semaphore> {
         count: word(bytes, at + COUNT),
         owner: word(bytes, at + OWNER),
         nest: word(bytes, at + NEST),
+        maximum: word(bytes, at + MAXIMUM),
         queue: (0..length).map(|place| word(bytes, at + QUEUE + place)).collect(),
     })
 }

@@ -55,6 +55,8 @@ pub struct Semaphore {
     pub count: u32,
     pub owner: u32,
     pub nest: u32,
+    /// The count at which a release has nothing left to give.
+    pub maximum: u32,
     pub queue: Vec<u32>,
 }
 
@@ -100,13 +102,14 @@ impl Semaphore {
         };
         class + order
     }
+}
 
-    /// The count at which a release has nothing left to give.
-    fn most(&self) -> u32 {
-        if self.class == Class::Counting {
-            u32::MAX
-        } else {
-            1
+impl Class {
+    /// Whether create takes this maximum for a semaphore of the class.
+    pub fn allows(self, maximum: u32) -> bool {
+        match self {
+            Class::Counting => maximum >= 1,
+            Class::Binary | Class::SimpleBinary => maximum == 1,
         }
     }
 }
@@ -116,8 +119,8 @@ impl Machine {
     pub fn call(&mut self, call: &Call) -> Answer {
         let served = match *call {
             Call::Start { slots, ref priorities } => self.start(slots, priorities),
-            Call::Create { caller, name, count, attributes } => {
-                self.create(caller, name, count, attributes)
+            Call::Create { caller, name, count, attributes, maximum } => {
+                self.create(caller, name, count, attributes, maximum)
             }
             Call::Ident { name } => self.ident(name),
             Call::Delete { caller, id } => self.delete(caller, id),
@@ -202,13 +205,13 @@ impl Machine {
         DONE
     }
 
-    fn create(&mut self, caller: u32, name: u32, count: u32, attributes: u32) -> Served {
+    fn create(&mut self, caller: u32, name: u32, count: u32, attributes: u32, maximum: u32) -> Served {
         self.check_task_caller(caller)?;
         if name == 0 {
             return Err(INVALID_NAME);
         }
         let (class, order) = split_attributes(attributes).ok_or(NOT_DEFINED)?;
-        if class != Class::Counting && count > 1 {
+        if !class.allows(maximum) || count > maximum {
             return Err(INVALID_NUMBER);
         }
         let usable = |slot: &Slot| slot.live.is_none() && slot.generation < LAST_GENERATION;
@@ -217,7 +220,8 @@ impl Machine {
         let (owner, nest) = if held { (caller, 1) } else { (0, 0) };
         let slot = &mut self.slots[index];
         slot.generation += 1;
-        slot.live = Some(Semaphore { name, class, order, count, owner, nest, queue: Vec::new() });
+        let queue = Vec::new();
+        slot.live = Some(Semaphore { name, class, order, count, owner, nest, maximum, queue });
         Ok(Outcome::Done(identifier(slot.generation, index)))
     }
 
@@ -306,7 +310,7 @@ impl Machine {
             return DONE;
         }
         if semaphore.queue.is_empty() {
-            if semaphore.count == semaphore.most() {
+            if semaphore.count == semaphore.maximum {
                 return Err(UNSATISFIED);
             }
             semaphore.count += 1;

@@ -1,7 +1,7 @@
 //! Calls with the answers and the bytes that they must give, written down for a board that has no Rust.
 //!
 //! Words of four bytes, low byte first. An entry begins with its kind:
-//! a call's place in `KINDS`, four numbers of the call (for a start: slots, how many priorities, and those after the four; for an
+//! a call's place in `KINDS`, five numbers of the call (for a start: slots, how many priorities, and those after the five; for an
 //! ident: the name, and how many slots it looks at), then status, value, next and the sum over the tables after the call; or `LEND`,
 //! or `WRITE`, or `END` with the number of calls. An ident is one entry for both functions that make it.
 
@@ -92,18 +92,20 @@ fn sum(bytes: &[u8]) -> u32 {
     bytes.iter().fold(0x811C_9DC5, |sum, &byte| (sum ^ u32::from(byte)).wrapping_mul(0x0100_0193))
 }
 
-/// The four numbers of a call on these tables.
-fn numbers(call: &Call, tables: &mut [u8]) -> [u32; 4] {
+/// The five numbers of a call on these tables.
+fn numbers(call: &Call, tables: &mut [u8]) -> [u32; 5] {
     match *call {
-        Call::Start { slots, ref priorities } => [slots, priorities.len() as u32, 0, 0],
-        Call::Create { caller, name, count, attributes } => [caller, name, count, attributes],
-        Call::Ident { name } => [name, Model.ident_looked(tables, name).1, 0, 0],
-        Call::Delete { caller, id } | Call::Release { caller, id } | Call::Flush { caller, id } => {
-            [caller, id, 0, 0]
+        Call::Start { slots, ref priorities } => [slots, priorities.len() as u32, 0, 0, 0],
+        Call::Create { caller, name, count, attributes, maximum } => {
+            [caller, name, count, attributes, maximum]
         }
-        Call::Obtain { caller, id, options, timeout } => [caller, id, options, timeout],
-        Call::Tick => [0; 4],
-        Call::Task { task } => [task, 0, 0, 0],
+        Call::Ident { name } => [name, Model.ident_looked(tables, name).1, 0, 0, 0],
+        Call::Delete { caller, id } | Call::Release { caller, id } | Call::Flush { caller, id } => {
+            [caller, id, 0, 0, 0]
+        }
+        Call::Obtain { caller, id, options, timeout } => [caller, id, options, timeout, 0],
+        Call::Tick => [0; 5],
+        Call::Task { task } => [task, 0, 0, 0, 0],
     }
 }
 

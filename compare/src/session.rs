@@ -94,11 +94,12 @@ pub fn parse_line(line: &[u8]) -> Option<Call> {
             timeout,
         }),
         b"release" => numbers(rest).map(|[caller, id]| Call::Release { caller, id }),
-        b"create" => numbers(rest).map(|[caller, name, count, attributes]| Call::Create {
+        b"create" => numbers(rest).map(|[caller, name, count, attributes, maximum]| Call::Create {
             caller,
             name,
             count,
             attributes,
+            maximum,
         }),
         b"ident" => numbers(rest).map(|[name]| Call::Ident { name }),
         b"delete" => numbers(rest).map(|[caller, id]| Call::Delete { caller, id }),

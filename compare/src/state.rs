@@ -1,5 +1,5 @@
-//! The state file of document 02, No. 2: the tables of a started machine as bytes to send home, which an
-//! unstarted machine reads back.
+//! The state file of document 02, No. 2 and No. 4: the tables of a started machine as bytes to send home,
+//! which an unstarted machine reads back.
 
 pub mod comparison;
 pub mod damage;
@@ -15,16 +15,27 @@ use crate::model::Machine;
 use crate::state::read::Fault;
 use crate::status::*;
 
-pub const EDITION: u32 = 1;
+/// The edition that is written, and the one before it, which is still read and has no maxima.
+pub const EDITION: u32 = 2;
+pub const OLD_EDITION: u32 = 1;
 pub const BODIES: usize = 4;
 /// Bytes of the table of contents: edition, number of bodies, then kind, offset and length of each.
 pub const CONTENTS: usize = 4 * (2 + 3 * BODIES);
-/// Numbers of a task in body 1, and of a slot in body 2.
+/// Numbers of a task in body 1, and of a slot in body 2, where the maximum is the last.
 pub const TASK_NUMBERS: usize = 4;
-pub const SLOT_NUMBERS: usize = 7;
+pub const SLOT_NUMBERS: usize = 8;
+pub const OLD_SLOT_NUMBERS: usize = SLOT_NUMBERS - 1;
 /// Bytes of the longest file. A task also stands once in body 3 or 4, and each slot has a queue length.
 pub const LONGEST: usize =
     CONTENTS + 4 * ((TASK_NUMBERS + 1) * MOST_TASKS + (SLOT_NUMBERS + 1) * MOST_SLOTS);
+
+/// Numbers of a slot in body 2 of a file of this edition.
+pub fn slot_numbers(edition: u32) -> usize {
+    match edition {
+        OLD_EDITION => OLD_SLOT_NUMBERS,
+        _ => SLOT_NUMBERS,
+    }
+}
 
 /// A manager that also writes and reads state files.
 pub trait Keeper: Manager {

@@ -30,3 +30,12 @@ pub const MOST_URGENT: u32 = 1;
 pub const LEAST_URGENT: u32 = 255;
 /// A slot of this generation is never used again once freed.
 pub const LAST_GENERATION: u32 = 65535;
+
+/// The greatest maximum that create allows with these attributes.
+pub fn greatest_maximum(attributes: u32) -> u32 {
+    if attributes & (BINARY + SIMPLE_BINARY) == 0 {
+        u32::MAX
+    } else {
+        1
+    }
+}

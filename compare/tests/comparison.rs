@@ -85,13 +85,13 @@ fn sequence(tables: &[u8]) -> Vec<u32> {
 #[test]
 fn the_lowest_number_among_equals_is_found() {
     let found = is_found(|_, tables, answer| {
+        if answer.status == 25 {
+            return answer;
+        }
         let priority = |number: u32| word(tables, task_at(number));
         let ready = sequence(tables);
         let urgent = ready.iter().copied().min_by_key(|&number| (priority(number), number));
-        match answer.status {
-            25 => answer,
-            _ => Answer { next: urgent.unwrap_or(0), ..answer },
-        }
+        Answer { next: urgent.unwrap_or(0), ..answer }
     });
     assert!(found.found.next < found.expected.next && found.memory.is_none());
 }

@@ -124,7 +124,7 @@ fn a_write_by_the_count_is_found_and_named() {
         (answer, looked)
     };
     let found = random_parts(&mut Miscounts(spoil)).expect_err("the comparison finds it");
-    assert!(found.memory.is_some_and(|said| said.starts_with("word 2722, ready sequence place 32: ")));
+    assert!(found.memory.is_some_and(|said| said.starts_with("word 2786, ready sequence place 32: ")));
     assert!(
         cases::run(&mut Miscounts(spoil)).is_err_and(|said| said.ends_with("the tables were changed"))
     );
@@ -143,18 +143,18 @@ fn last_entry(calls: &[Call]) -> Vec<u32> {
     assert_eq!(counted, Tested.ident_looked(&mut tables, 9));
     let words: Vec<u32> =
         record.as_chunks::<4>().0.iter().map(|&word| u32::from_le_bytes(word)).collect();
-    words[words.len() - 11..].to_vec()
+    words[words.len() - 12..].to_vec()
 }
 
 #[test]
 fn a_record_has_the_count_of_an_ident() {
-    let create = |name| Call::Create { caller: 1, name, count: 0, attributes: 0 };
+    let create = |name| Call::create(1, name, 0, 0);
     let start = Call::Start { slots: 5, priorities: vec![3] };
     let ident = Call::Ident { name: 9 };
-    // Kind, name, count, two zeros, the answer; then the sum, the end, and how many calls.
+    // Kind, name, count, three zeros, the answer; then the sum, the end, and how many calls.
     let entry = last_entry(&[start.clone(), create(8), create(9), ident.clone()]);
-    assert_eq!(entry[..8], [2, 9, 2, 0, 0, 0, 65538, 1]);
-    assert_eq!(entry[9..], [18, 4]);
-    assert_eq!(last_entry(&[start, ident.clone()])[..8], [2, 9, 5, 0, 0, 3, 0, 1]);
-    assert_eq!(last_entry(&[ident])[..8], [2, 9, 0, 0, 0, 3, 0, 0]);
+    assert_eq!(entry[..9], [2, 9, 2, 0, 0, 0, 0, 65538, 1]);
+    assert_eq!(entry[10..], [18, 4]);
+    assert_eq!(last_entry(&[start, ident.clone()])[..9], [2, 9, 5, 0, 0, 0, 3, 0, 1]);
+    assert_eq!(last_entry(&[ident])[..9], [2, 9, 0, 0, 0, 0, 3, 0, 0]);
 }

@@ -3,7 +3,7 @@
 use compare::call::{Answer, Call, Manager};
 use compare::inplace::agreement::{agrees, Tested};
 use compare::layout::{
-    self, read, set_word, slot_at, task_at, word, Model, LENGTH, READY, SEQUENCE, WORDS,
+    self, read, set_word, slot_at, task_at, word, Model, LENGTH, MAXIMUM, READY, SEQUENCE, WORDS,
 };
 
 #[test]
@@ -22,8 +22,8 @@ fn small_tables() -> Vec<u8> {
     let obtain = |caller, id| Call::Obtain { caller, id, options: 0, timeout: 5 };
     for call in [
         Call::Start { slots: 3, priorities: vec![5, 6, 6] },
-        Call::Create { caller: 1, name: 1, count: 0, attributes: 20 },
-        Call::Create { caller: 1, name: 2, count: 0, attributes: 0 },
+        Call::create(1, 1, 0, 20),
+        Call::Create { caller: 1, name: 2, count: 0, attributes: 0, maximum: 12 },
         obtain(2, 65537),
         obtain(3, 65537),
         obtain(1, 65538),
@@ -47,12 +47,13 @@ fn edited(edits: &[(usize, u32)], wanted: bool) {
 
 #[test]
 fn layout_has_its_length_and_byte_order() {
-    assert_eq!((READY, SEQUENCE, WORDS, LENGTH), (2690, 2691, 2723, 10892));
+    assert_eq!((READY, SEQUENCE, WORDS, LENGTH), (2754, 2755, 2787, 11148));
     let tables = small_tables();
     assert_eq!(&tables[..8], &[0, 0, 0, 3, 0, 0, 0, 3]);
-    assert_eq!((task_at(1), slot_at(0), slot_at(63) + 40), (2, 130, READY));
-    let first: Vec<u32> = (slot_at(0)..slot_at(0) + 11).map(|at| word(&tables, at)).collect();
-    assert_eq!(first, [1, 1, 1, 20, 0, 1, 1, 2, 2, 3, 0]);
+    assert_eq!((task_at(1), slot_at(0), slot_at(63) + 41), (2, 130, READY));
+    let first: Vec<u32> = (slot_at(0)..slot_at(0) + 12).map(|at| word(&tables, at)).collect();
+    assert_eq!(first, [1, 1, 1, 20, 0, 1, 1, 1, 2, 2, 3, 0]);
+    assert_eq!(word(&tables, slot_at(1) + MAXIMUM), 12);
     let waits: Vec<u32> = (task_at(2)..task_at(3)).map(|at| word(&tables, at)).collect();
     assert_eq!(waits, [6, 100, 65537, 5]);
     let mut equals = equal_tables();
@@ -67,7 +68,7 @@ fn equal_tables() -> Vec<u8> {
     let obtain = |caller| Call::Obtain { caller, id: 65537, options: 0, timeout: 5 };
     for call in [
         Call::Start { slots: 1, priorities: vec![7; 5] },
-        Call::Create { caller: 1, name: 1, count: 0, attributes: 0 },
+        Call::create(1, 1, 0, 0),
         obtain(2),
         obtain(3),
         obtain(5),
@@ -170,31 +171,72 @@ fn slot_rules() {
     edited(&[(binary + 5, 0), (binary + 6, 0)], false);
     edited(&[(binary + 6, 0)], false);
     edited(&[(binary + 6, u32::MAX)], true);
-    edited(&[(counting + 3, 36)], true);
+    edited(&[(counting + 3, 36)], false);
+    edited(&[(counting + 3, 36), (counting + 7, 1)], true);
     edited(&[(counting + 5, 2), (counting + 6, 1)], false);
     edited(&[(free, 65535)], true);
     edited(&[(free, 65536)], false);
     edited(&[(free + 2, 1)], false);
     edited(&[(free + 1, 1), (free + 2, 1)], false);
-    edited(&[(free, 1), (free + 1, 1), (free + 2, 1)], true);
-    edited(&[(free, 1), (free + 1, 1), (free + 2, 1), (free + 4, u32::MAX)], true);
+    edited(&[(free, 1), (free + 1, 1), (free + 2, 1)], false);
+    edited(&[(free, 1), (free + 1, 1), (free + 2, 1), (free + 7, 1)], true);
+    edited(&[(free, 1), (free + 1, 1), (free + 2, 1), (free + 4, u32::MAX), (free + 7, u32::MAX)], true);
     edited(&[(slot_at(3), 1)], false);
+}
+
+#[test]
+fn maximum_rules() {
+    let (binary, counting, free) = (slot_at(0), slot_at(1), slot_at(2));
+    for (at, maximum, wanted) in [
+        (binary, 0, false),
+        (binary, 2, false),
+        (binary, u32::MAX, false),
+        (counting, 0, false),
+        (counting, 1, true),
+        (counting, u32::MAX, true),
+        (free, 1, false),
+        (free, u32::MAX, false),
+        (slot_at(3), 1, false),
+        (slot_at(63), 1, false),
+    ] {
+        edited(&[(at + MAXIMUM, maximum)], wanted);
+    }
+    let live = |attributes: u32, count: u32, maximum: u32| {
+        let numbers = [1, 1, 9, attributes, count, 0, 0, maximum];
+        (free..).zip(numbers).collect::<Vec<(usize, u32)>>()
+    };
+    for (attributes, count, maximum, wanted) in [
+        (0, 12, 12, true),
+        (4, 12, 13, true),
+        (0, 12, 11, false),
+        (4, u32::MAX, u32::MAX - 1, false),
+        (0, u32::MAX - 1, u32::MAX - 1, true),
+        (32, 1, 1, true),
+        (32, 0, 1, true),
+        (36, 1, 2, false),
+        (32, 2, 2, false),
+        (16, 1, 1, true),
+        (20, 1, 2, false),
+        (16, 2, 2, false),
+    ] {
+        edited(&live(attributes, count, maximum), wanted);
+    }
 }
 
 #[test]
 fn queue_rules() {
     let (binary, counting) = (slot_at(0), slot_at(1));
     // Equal priorities may stand either way.
-    edited(&[(binary + 8, 3), (binary + 9, 2)], true);
-    edited(&[(binary + 9, 2)], false);
-    edited(&[(binary + 7, 3), (binary + 10, 2)], false);
-    edited(&[(binary + 7, 1)], false);
-    edited(&[(binary + 7, 1), (binary + 9, 0)], false);
-    edited(&[(binary + 7, 33)], false);
-    edited(&[(binary + 10, 1)], false);
-    edited(&[(counting + 8, 0)], false);
-    edited(&[(counting + 8, 4)], false);
-    edited(&[(counting + 8, u32::MAX)], false);
+    edited(&[(binary + 9, 3), (binary + 10, 2)], true);
+    edited(&[(binary + 10, 2)], false);
+    edited(&[(binary + 8, 3), (binary + 11, 2)], false);
+    edited(&[(binary + 8, 1)], false);
+    edited(&[(binary + 8, 1), (binary + 10, 0)], false);
+    edited(&[(binary + 8, 33)], false);
+    edited(&[(binary + 11, 1)], false);
+    edited(&[(counting + 9, 0)], false);
+    edited(&[(counting + 9, 4)], false);
+    edited(&[(counting + 9, u32::MAX)], false);
     // Generation and identifiers waited on move together.
     let moved = 65535 * 65536 + 1;
     edited(&[(binary, 65535)], false);

@@ -9,7 +9,7 @@ use compare::sections::write::answer_text;
 use compare::sections::*;
 
 /// Three tasks and, for sections, 65537 with PRIORITY and 65538 with FIFO.
-const SESSION: &str = "start 4 10 20 30\ncreate 1 77 1 20\ncreate 1 78 1 16\n";
+const SESSION: &str = "start 4 10 20 30\ncreate 1 77 1 20 1\ncreate 1 78 1 16 1\n";
 
 fn input(text: &str) -> Input {
     read(format!("{SESSION}{text}").as_bytes()).unwrap()
@@ -98,7 +98,7 @@ fn an_empty_list_of_events_changes_nothing() {
 fn the_mission() {
     // The semaphore of two writers is deleted, and its slot goes to one with room for two.
     let writers = script(1, &["65537 0 0"]) + &script(2, &["65537 0 0"]);
-    let events = "run\ndelete 3 65537\ncreate 3 79 2 0\nturn 1\nturn 2\nturn 1\nturn 2\n";
+    let events = "run\ndelete 3 65537\ncreate 3 79 2 0 2\nturn 1\nturn 2\nturn 1\nturn 2\n";
     moves(&(writers.clone() + events), "0", &["place 1 1 0", "place 2 1 0", "grants"]);
     let after = run(&input(&(writers + events)));
     let used = after.machine.slots[0].live.as_ref().unwrap();
@@ -266,7 +266,8 @@ fn refused(input: &Input, status: u32, why: &str) {
 }
 
 /// A run that is fine; 65539 is owned, 65540 is a counting semaphore, and task 3 waits there.
-const FINE: &str = "create 1 79 0 16\ncreate 1 80 0 0\nobtain 3 65540 0 0\ncell 65537 5\ncell 65538 6\n\
+const FINE: &str =
+    "create 1 79 0 16 1\ncreate 1 80 0 0 1\nobtain 3 65540 0 0\ncell 65537 5\ncell 65538 6\n\
 local 1 0 4\nscript 1\nsection 65537 0 0\nload 0 7\nend\nrun\nturn 1\n";
 
 #[test]
@@ -293,20 +294,27 @@ fn refusals() {
     for step in ["load 0", "load 0 07", "subtract 0 1", "", "cell 1 1", "section 65537 0 0", "tick"] {
         refused(&in_place("load 0 7", step), 11, step);
     }
-    for event in ["turn", "turn 01", "run", "end", "", "task 1", "tick 1", "obtain 2 65537"] {
+    for event in
+        ["turn", "turn 01", "run", "end", "", "task 1", "tick 1", "obtain 2 65537", "create 2 79 1 0"]
+    {
         refused(&in_place("turn 1", event), 11, event);
     }
     for id in ["65539", "65540", "65541", "131073", "0", "65536", "1", "4294967295"] {
         let steps = format!("section {id} 0 0\nend\n");
         refused(&in_place(section, &steps), 11, id);
     }
+}
+
+#[test]
+fn refusals_with_4() {
+    let in_place = |old: &str, new: &str| input(&FINE.replace(old, new));
     for task in ["0", "4", "33", "4294967295", "3"] {
         refused(&in_place("run", &format!("script {task}\nrun")), 4, task);
     }
     for task in ["0", "2", "4", "4294967295"] {
         refused(&in_place("turn 1", &format!("turn 1\nturn {task}")), 4, task);
     }
-    for call in ["create 1 0 0 0", "delete 1 0", "obtain 1 0 0 0", "release 1 0", "flush 1 0"] {
+    for call in ["create 1 0 0 0 0", "delete 1 0", "obtain 1 0 0 0", "release 1 0", "flush 1 0"] {
         refused(&in_place("turn 1", call), 4, call);
     }
 }
@@ -326,7 +334,7 @@ fn who_may_call() {
 
 #[test]
 fn order_of_the_refusals() {
-    let text = "create 1 79 0 0\nobtain 3 65539 0 0\nscript 3\nrun\nflush 3 65539\nturn 1\n";
+    let text = "create 1 79 0 0 1\nobtain 3 65539 0 0\nscript 3\nrun\nflush 3 65539\nturn 1\n";
     refused(&input(text), 4, "waiting, calling, and a turn without a script");
     refused(&input(&format!("{text}turn")), 11, "an event of no kind at the end beats them");
     let mut disagrees = input(&format!("{text}turn"));
@@ -341,7 +349,7 @@ fn order_of_the_refusals() {
 fn many_scripts() {
     let scripts =
         |count: u32| -> String { (1..=count).map(|task| script(task, &["65537 0 0"])).collect() };
-    let session = format!("start 1{}\ncreate 1 77 1 16\n", " 5".repeat(32));
+    let session = format!("start 1{}\ncreate 1 77 1 16 1\n", " 5".repeat(32));
     let turns: String = (1..=32).map(|task| format!("turn {task}\n")).collect();
     let text = |count, events: &str| format!("{session}{}run\n{events}", scripts(count));
     let full = read(text(32, &turns.repeat(3)).as_bytes()).unwrap();
@@ -349,7 +357,7 @@ fn many_scripts() {
     refused(&read(text(33, "").as_bytes()).unwrap(), 4, "one of 33 tasks is none");
     // A machine that is not started has no ready task, but events may start it.
     refused(&read(b"script 1\nrun\n").unwrap(), 4, "not started");
-    let started = run(&read(b"run\nstart 1 5 4\ncreate 1 7 1 16\n").unwrap());
+    let started = run(&read(b"run\nstart 1 5 4\ncreate 1 7 1 16 1\n").unwrap());
     assert_eq!((started.answer, started.machine.tasks.len()), (Answer::new(0, 0, 2), 2));
     assert_ne!(started.machine, Machine::default());
 }

@@ -80,9 +80,9 @@ fn what_is_written_is_read_again() {
 }
 
 /// A run with a step of each kind and an event of each kind.
-const EACH: &str = "start 1 5 6\ncreate 1 7 1 16\ncell 65537 5\nlocal 2 7 4\nscript 2\nscript 1\n\
+const EACH: &str = "start 1 5 6\ncreate 1 7 1 16 1\ncell 65537 5\nlocal 2 7 4\nscript 2\nscript 1\n\
 section 65537 2 3\nload 0 1\nstore 2 0\nset 3 9\nadd 4 5\nend\nrun\nturn 1\nstart 3 8 9\n\
-create 4 5 6 7\nident 8\ndelete 9 10\nobtain 11 12 13 14\nrelease 15 16\nflush 17 18\ntick\nturn 2\n";
+create 4 5 6 7 19\nident 8\ndelete 9 10\nobtain 11 12 13 14\nrelease 15 16\nflush 17 18\ntick\nturn 2\n";
 
 #[test]
 fn numbers_of_a_run() {
@@ -100,7 +100,7 @@ fn numbers_of_a_run() {
     let events: [&[u32]; 10] = [
         &[1, 1],
         &[2, 3, 2, 8, 9],
-        &[3, 4, 5, 6, 7],
+        &[3, 4, 5, 6, 7, 19],
         &[4, 8],
         &[5, 9, 10],
         &[6, 11, 12, 13, 14],
@@ -128,9 +128,18 @@ fn numbers_that_say_nothing() {
     // What a kind does not take is not looked at.
     assert_eq!(scripts_of(&[1, 5, 6, 7]), Some(vec![Script { task: 5, sections: vec![] }]));
     assert_eq!(events_of(&[]), []);
-    for numbers in
-        [&[0][..], &[10], &[1], &[2], &[2, 1], &[2, 1, 3, 5, 5], &[2, 1, u32::MAX], &[6, 1, 2, 3]]
-    {
+    let cut: [&[u32]; 9] = [
+        &[0],
+        &[10],
+        &[1],
+        &[2],
+        &[2, 1],
+        &[2, 1, 3, 5, 5],
+        &[2, 1, u32::MAX],
+        &[3, 1, 2, 3, 4],
+        &[6, 1, 2, 3],
+    ];
+    for numbers in cut {
         assert_eq!(events_of(numbers), [Event::Unknown], "{numbers:?}");
     }
     assert_eq!(events_of(&[9, 0, 9]), [Event::Call(Call::Tick), Event::Unknown]);
@@ -158,6 +167,10 @@ fn random_runs_as_numbers() {
     }
 }
 
+fn scripts_in(lent: &Lent) -> usize {
+    lent.scripts.chunks_exact(ROW).filter(|row| row[0] == SCRIPT).count()
+}
+
 #[test]
 fn lengths_that_do_not_fit() {
     let input = read(EACH.as_bytes()).unwrap();
@@ -168,8 +181,7 @@ fn lengths_that_do_not_fit() {
         assert_eq!(lent.run(), wanted);
         assert_eq!((&lent.tables, &lent.cells), (&before.tables, &before.cells));
         assert_eq!(lent.locals, before.locals);
-        let scripts = lent.scripts.chunks_exact(ROW).filter(|row| row[0] == SCRIPT).count();
-        let (cleared, rest) = lent.places.split_at((2 * scripts).min(lent.places.len()));
+        let (cleared, rest) = lent.places.split_at((2 * scripts_in(&lent)).min(lent.places.len()));
         assert!(cleared.iter().all(|&place| place == 0) && rest.iter().all(|&place| place == 7777));
         assert_eq!(lent.grants[0], 0);
         assert!(lent.grants[1..].iter().all(|&number| number == 7777));
@@ -179,7 +191,7 @@ fn lengths_that_do_not_fit() {
     refused(|lent| lent.cells.push(1), no_fit);
     refused(|lent| lent.locals.truncate(255), no_fit);
     refused(|lent| lent.locals.push(0), no_fit);
-    refused(|lent| lent.places.truncate(2 * lent.scripts.chunks(ROW).filter(|row| row[0] == SCRIPT).count() - 1), no_fit);
+    refused(|lent| lent.places.truncate(2 * scripts_in(lent) - 1), no_fit);
     refused(|lent| lent.scripts.push(0), no_fit);
     refused(|lent| lent.events.push(0), no_fit);
     refused(|lent| lent.events.extend([7, 1, 65537]), Answer::new(4, 0, 1));

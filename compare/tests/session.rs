@@ -13,9 +13,9 @@ fn session(input: &[u8], wanted: &str) {
     assert_eq!(output, wanted, "for {:?}", String::from_utf8_lossy(input));
 }
 
-const WORKED: &[u8] = b"start 4 10 20\ncreate 1 77 1 20\nobtain 2 65537 0 0\nobtain 1 65537 0 3\n\
+const WORKED: &[u8] = b"start 4 10 20\ncreate 1 77 1 20 1\nobtain 2 65537 0 0\nobtain 1 65537 0 3\n\
 tick\nrelease 2 65537\ndelete 2 65537\nrelease 1 65537\ndelete 1 65537\nobtain 1 65537 0 0\n\
-create 1 78 2 0\n";
+create 1 78 2 0 4294967295\n";
 const WORKED_ANSWERS: &str = "0 0 1\n0 65537 1\n0 0 1\n100 0 2\n0 0 2\n0 0 1\n12 0 1\n0 0 1\n0 0 1\n\
 4 0 1\n0 131073 1\n";
 
@@ -26,7 +26,7 @@ fn worked_session_of_the_paper() {
 
 #[test]
 fn equals_of_the_paper() {
-    let input = b"start 1 10 10\ncreate 1 77 0 0\nobtain 1 65537 0 0\nrelease 2 65537\n";
+    let input = b"start 1 10 10\ncreate 1 77 0 0 4294967295\nobtain 1 65537 0 0\nrelease 2 65537\n";
     session(input, "0 0 1\n0 65537 1\n100 0 2\n0 0 2\n");
 }
 
@@ -37,7 +37,7 @@ fn examples_have_their_answers() {
     let paths = fs::read_dir(examples).unwrap().map(|entry| entry.unwrap().path());
     let is_session = |path: &PathBuf| path.extension().is_some_and(|end| end == "session");
     let sessions: Vec<PathBuf> = paths.filter(is_session).collect();
-    assert!(sessions.len() >= 4, "the examples are found");
+    assert!(sessions.len() >= 5, "the examples are found");
     for path in sessions {
         let input = fs::read(&path).unwrap();
         let wanted = fs::read(path.with_extension("stdout")).unwrap();
@@ -122,12 +122,30 @@ fn longest_line() {
 
 #[test]
 fn a_broken_line_changes_nothing() {
-    session(b"start 1 1\ncreate 1 5 3 0 \ncreate 1 5 3 0\n", "0 0 1\nbad\n0 65537 1\n");
+    session(b"start 1 1\ncreate 1 5 3 0 9 \ncreate 1 5 3 0 9\n", "0 0 1\nbad\n0 65537 1\n");
+}
+
+#[test]
+fn a_create_has_five_numbers() {
+    let bad: [&[u8]; 6] = [
+        b"create 1 5 3 0",
+        b"create 1 5 3 0 ",
+        b"create 1 5 3 0 09",
+        b"create 1 5 3 0 4294967296",
+        b"create 1 5 3 0 -1",
+        b"create 1 5 3 0 9 9",
+    ];
+    for line in bad {
+        session(&[b"start 1 1\n", line].concat(), "0 0 1\nbad\n");
+    }
+    // The maximum is the last: not the count, nor the attributes.
+    session(b"start 1 1\ncreate 1 5 3 0 2\ncreate 1 5 2 0 3\n", "0 0 1\n10 0 1\n0 65537 1\n");
+    session(b"start 1 1\ncreate 1 5 1 1 16\ncreate 1 5 1 16 1\n", "0 0 1\n11 0 1\n0 65537 1\n");
 }
 
 #[test]
 fn other_calls() {
-    let input = b"start 2 3 2 1\ncreate 3 7 0 32\nident 7\nobtain 3 65537 2 9\n\
+    let input = b"start 2 3 2 1\ncreate 3 7 0 32 1\nident 7\nobtain 3 65537 2 9\n\
 obtain 1 65537 1 9\nflush 0 65537\n";
     session(input, "0 0 3\n0 65537 3\n0 65537 3\n100 0 2\n13 0 2\n0 0 3\n");
 }

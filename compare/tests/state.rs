@@ -18,30 +18,30 @@ fn made_by(calls: &[Call]) -> Vec<u8> {
     tables
 }
 
-/// Two tasks and one counting semaphore, for which task 2 waits 3 ticks.
+/// Two tasks and one counting semaphore of maximum 12, for which task 2 waits 3 ticks.
 fn small() -> Vec<u8> {
     made_by(&[
         Call::Start { slots: 1, priorities: vec![10, 20] },
-        Call::Create { caller: 1, name: 77, count: 0, attributes: 0 },
+        Call::Create { caller: 1, name: 77, count: 0, attributes: 0, maximum: 12 },
         Call::Obtain { caller: 2, id: 65537, options: 0, timeout: 3 },
     ])
 }
 
 /// The same as a file, each byte by hand.
 #[rustfmt::skip]
-const SMALL: [u8; 128] = [
+const SMALL: [u8; 132] = [
     // edition, number of bodies
-    0, 0, 0, 1,  0, 0, 0, 4,
+    0, 0, 0, 2,  0, 0, 0, 4,
     // kind, offset and length of each body
     0, 0, 0, 1,  0, 0, 0, 56,  0, 0, 0, 32,
-    0, 0, 0, 2,  0, 0, 0, 88,  0, 0, 0, 28,
-    0, 0, 0, 3,  0, 0, 0, 116, 0, 0, 0, 8,
-    0, 0, 0, 4,  0, 0, 0, 124, 0, 0, 0, 4,
+    0, 0, 0, 2,  0, 0, 0, 88,  0, 0, 0, 32,
+    0, 0, 0, 3,  0, 0, 0, 120, 0, 0, 0, 8,
+    0, 0, 0, 4,  0, 0, 0, 128, 0, 0, 0, 4,
     // tasks: priority, answer, identifier waited on, ticks left
     0, 0, 0, 10, 0, 0, 0, 0,   0, 0, 0, 0,  0, 0, 0, 0,
     0, 0, 0, 20, 0, 0, 0, 100, 0, 1, 0, 1,  0, 0, 0, 3,
-    // slot: generation, live, name, attributes, count, owner, nest
-    0, 0, 0, 1,  0, 0, 0, 1,  0, 0, 0, 77,  0, 0, 0, 0,  0, 0, 0, 0,  0, 0, 0, 0,  0, 0, 0, 0,
+    // slot: generation, live, name, attributes, count, owner, nest, maximum
+    0, 0, 0, 1,  0, 0, 0, 1,  0, 0, 0, 77,  0, 0, 0, 0,  0, 0, 0, 0,  0, 0, 0, 0,  0, 0, 0, 0,  0, 0, 0, 12,
     // queue: length, tasks
     0, 0, 0, 1,  0, 0, 0, 2,
     // ready sequence
@@ -53,9 +53,9 @@ fn mixed() -> Vec<u8> {
     let wait = |caller, id, timeout| Call::Obtain { caller, id, options: 0, timeout };
     made_by(&[
         Call::Start { slots: 4, priorities: vec![5, 6, 6, 7, 7, 255] },
-        Call::Create { caller: 1, name: 1, count: 0, attributes: 20 },
-        Call::Create { caller: 1, name: 0xffff_ffff, count: 0, attributes: 0 },
-        Call::Create { caller: 1, name: 3, count: 0xffff_ffff, attributes: 4 },
+        Call::create(1, 1, 0, 20),
+        Call::create(1, 0xffff_ffff, 0, 0),
+        Call::create(1, 3, 0xffff_ffff, 4),
         wait(3, 65537, 0),
         wait(2, 65537, 0xffff_ffff),
         wait(4, 65538, 1),
@@ -118,9 +118,9 @@ fn accepted(file: &[u8]) {
 
 #[test]
 fn a_file_by_hand() {
-    assert_eq!(LONGEST, 2744);
-    let mut file = [0; 128];
-    assert_eq!(save(&small(), &mut file), Answer::new(0, 128, 1));
+    assert_eq!(LONGEST, 3000);
+    let mut file = [0; 132];
+    assert_eq!(save(&small(), &mut file), Answer::new(0, 132, 1));
     assert_eq!(file, SMALL);
     let mut tables = vec![0; LENGTH];
     assert_eq!(load(&mut tables, &SMALL), Answer::new(0, 0, 1));
@@ -133,7 +133,7 @@ fn what_is_written_reads_back() {
         let file = file_from(&tables);
         let machine = layout::read(&tables).expect("tables that calls made agree");
         assert_eq!(read(&file), Ok(machine.clone()));
-        assert_eq!((write(&machine), file_of(&tables)), (file.clone(), Some(file.clone())));
+        assert_eq!((write(&machine), file_of(&tables, 2)), (file.clone(), Some(file.clone())));
         let mut loaded = vec![0; LENGTH];
         assert_eq!(load(&mut loaded, &file), Answer::new(0, 0, machine.next_task()));
         assert!(loaded == tables, "every byte of the tables comes back");
@@ -155,10 +155,10 @@ fn the_mixed_bodies() {
     ];
     assert_eq!(tasks, wanted.as_flattened());
     let wanted = [
-        [1, 1, 1, 20, 0, 1, 1],
-        [1, 1, 0xffff_ffff, 0, 0, 0, 0],
-        [1, 0, 0, 0, 0, 0, 0],
-        [0, 0, 0, 0, 0, 0, 0],
+        [1, 1, 1, 20, 0, 1, 1, 1],
+        [1, 1, 0xffff_ffff, 0, 0, 0, 0, 0xffff_ffff],
+        [1, 0, 0, 0, 0, 0, 0, 0],
+        [0, 0, 0, 0, 0, 0, 0, 0],
     ];
     assert_eq!(slots, wanted.as_flattened());
     assert_eq!(queues, [2, 3, 2, 1, 1, 0, 0]);
@@ -169,22 +169,22 @@ fn the_mixed_bodies() {
 fn the_longest_and_the_shortest() {
     let start = |slots, tasks| made_by(&[Call::Start { slots, priorities: vec![7; tasks] }]);
     assert_eq!(file_from(&start(64, 32)).len(), LONGEST);
-    assert_eq!(file_from(&start(1, 1)).len(), 56 + 20 + 32);
+    assert_eq!(file_from(&start(1, 1)).len(), 56 + 20 + 36);
     accepted(&file_from(&start(64, 32)));
     accepted(&file_from(&start(1, 1)));
 }
 
 #[test]
 fn room_for_the_file() {
-    let mut exact = [0xee; 128];
-    assert_eq!(save(&small(), &mut exact), Answer::new(0, 128, 1));
-    let mut short = [0xee; 127];
+    let mut exact = [0xee; 132];
+    assert_eq!(save(&small(), &mut exact), Answer::new(0, 132, 1));
+    let mut short = [0xee; 131];
     assert_eq!(save(&small(), &mut short), Answer::new(8, 0, 1));
-    assert_eq!(short, [0xee; 127]);
+    assert_eq!(short, [0xee; 131]);
     assert_eq!(save(&small(), &mut []), Answer::new(8, 0, 1));
     let mut long = [0xee; 200];
-    assert_eq!(save(&small(), &mut long), Answer::new(0, 128, 1));
-    assert_eq!((&long[..128], &long[128..]), (&SMALL[..], &[0xee; 72][..]));
+    assert_eq!(save(&small(), &mut long), Answer::new(0, 132, 1));
+    assert_eq!((&long[..132], &long[132..]), (&SMALL[..], &[0xee; 68][..]));
 }
 
 #[test]
@@ -194,7 +194,7 @@ fn a_save_is_refused_in_order() {
     let mut half = vec![0; LENGTH];
     half[LENGTH - 1] = 1;
     for tables in [&damaged[..], &half, &[], &small()[1..], &[small(), vec![0]].concat()] {
-        for room in [0, 127, 128, LONGEST] {
+        for room in [0, 131, 132, LONGEST] {
             let mut file = vec![0xee; room];
             assert_eq!(save(tables, &mut file), Answer::new(25, 0, 0));
             assert!(file.iter().all(|&byte| byte == 0xee));
@@ -246,13 +246,16 @@ fn every_cut_and_bytes_behind() {
 #[test]
 fn the_table_of_contents() {
     refused(&edited(&[(0, 0)]), Fault::Edition);
-    refused(&edited(&[(0, 2)]), Fault::Edition);
+    refused(&edited(&[(0, 3)]), Fault::Edition);
+    refused(&edited(&[(0, 0x0100_0002)]), Fault::Edition);
+    // Eight numbers are no record of edition 1.
+    refused(&edited(&[(0, 1)]), Fault::Slots);
     refused(&edited(&[(1, 3)]), Fault::Bodies);
     refused(&edited(&[(1, 5)]), Fault::Bodies);
     for (at, kind) in [(2, 0), (2, 2), (5, 1), (8, 4), (11, 5), (11, 0x0100_0004)] {
         refused(&edited(&[(at, kind)]), Fault::Kind);
     }
-    for (at, offset) in [(3, 0), (3, 52), (6, 84), (6, 56), (9, 120), (12, 120), (12, 128)] {
+    for (at, offset) in [(3, 0), (3, 52), (6, 84), (6, 56), (9, 116), (12, 124), (12, 132)] {
         refused(&edited(&[(at, offset)]), Fault::Offset);
     }
     // Lengths past the end, and with the next offset to match.
@@ -260,26 +263,26 @@ fn the_table_of_contents() {
     refused(&edited(&[(4, 0xffff_fff0)]), Fault::Length);
     refused(&edited(&[(4, 0xffff_fff0), (6, 40)]), Fault::Length);
     for index in 0..4 {
-        for back in [1, 4, 8, 16, 28] {
+        for back in [1, 4, 8, 16, 28, 32] {
             assert_ne!(wrapped(&SMALL, index, back), SMALL);
             refused(&wrapped(&SMALL, index, back), Fault::Length);
         }
     }
     // Lengths that are no whole numbers.
     refused(&edited(&[(4, 31), (6, 87)]), Fault::Words);
-    refused(&edited(&[(10, 9), (12, 125), (13, 3)]), Fault::Words);
+    refused(&edited(&[(10, 9), (12, 129), (13, 3)]), Fault::Words);
     refused(&edited(&[(13, 3)]), Fault::Words);
     refused(&edited(&[(13, 0)]), Fault::Behind);
     // One body's numbers counted to the next.
-    refused(&edited(&[(4, 28), (6, 84), (7, 32)]), Fault::Tasks);
-    refused(&edited(&[(7, 24), (9, 112), (10, 12)]), Fault::Slots);
-    refused(&edited(&[(10, 4), (12, 120), (13, 8)]), Fault::Queues);
-    refused(&edited(&[(10, 12), (12, 128), (13, 0)]), Fault::Queues);
+    refused(&edited(&[(4, 28), (6, 84), (7, 36)]), Fault::Tasks);
+    refused(&edited(&[(7, 28), (9, 116), (10, 12)]), Fault::Slots);
+    refused(&edited(&[(10, 4), (12, 124), (13, 8)]), Fault::Queues);
+    refused(&edited(&[(10, 12), (12, 132), (13, 0)]), Fault::Queues);
 }
 
 #[test]
 fn bodies_put_together_wrongly() {
-    let sheet = Sheet::of(&layout::read(&mixed()).expect("tables that calls made agree"));
+    let sheet = Sheet::of(2, &layout::read(&mixed()).expect("tables that calls made agree"));
     accepted(&sheet.file());
     assert_eq!(sheet.file(), file_from(&mixed()));
     for (name, misplaced) in sheet.misplaced() {
@@ -290,7 +293,7 @@ fn bodies_put_together_wrongly() {
 
 #[test]
 fn counts_of_tasks_and_slots() {
-    let sheet = Sheet::of(&layout::read(&small()).expect("tables that calls made agree"));
+    let sheet = Sheet::of(2, &layout::read(&small()).expect("tables that calls made agree"));
     accepted(&sheet.clone().with_tasks(3).file());
     accepted(&sheet.clone().with_tasks(32).file());
     accepted(&sheet.clone().with_slots(2).file());
@@ -300,12 +303,12 @@ fn counts_of_tasks_and_slots() {
     refused(&sheet.clone().with_tasks(33).file(), Fault::Tasks);
     refused(&sheet.clone().with_slots(0).file(), Fault::Slots);
     refused(&sheet.clone().with_slots(65).file(), Fault::Slots);
-    refused(&Sheet::new([const { Vec::new() }; 4]).file(), Fault::Tasks);
+    refused(&Sheet::new(2, [const { Vec::new() }; 4]).file(), Fault::Tasks);
 }
 
 #[test]
 fn queues_and_the_ready_sequence() {
-    let sheet = Sheet::of(&layout::read(&small()).expect("tables that calls made agree"));
+    let sheet = Sheet::of(2, &layout::read(&small()).expect("tables that calls made agree"));
     let with = |index: usize, numbers: &[u32]| {
         let mut sheet = sheet.clone();
         *sheet.body(index) = numbers.to_vec();
@@ -334,8 +337,15 @@ fn queues_and_the_ready_sequence() {
 #[test]
 fn numbers_of_tasks_and_slots() {
     let (ready, waiting, slot) = (14, 18, 22);
-    for edit in [(ready, 255), (ready + 1, 13), (waiting + 3, 0), (slot + 2, 1), (slot + 3, 36)] {
+    for edit in [(ready, 255), (ready + 1, 13), (waiting + 3, 0), (slot + 2, 1), (slot + 3, 4)] {
         accepted(&edited(&[edit]));
+    }
+    for maximum in [1, 2, 0xffff_ffff] {
+        accepted(&edited(&[(slot + 7, maximum)]));
+    }
+    accepted(&edited(&[(slot + 3, 36), (slot + 7, 1)]));
+    for edits in [&[(slot + 7, 0)][..], &[(slot + 3, 36)], &[(slot + 3, 36), (slot + 7, 2)]] {
+        refused(&edited(edits), Fault::Agreement);
     }
     for edit in [(ready, 0), (ready, 256), (ready + 1, 5), (ready + 1, 100), (waiting + 2, 65538)] {
         refused(&edited(&[edit]), Fault::Agreement);
@@ -352,8 +362,8 @@ fn numbers_of_tasks_and_slots() {
     let mut freed = small();
     Model.call(&mut freed, &Call::Delete { caller: 1, id: 65537 });
     let file = file_from(&freed);
-    assert_eq!((word(&file, slot), file.len()), (1, 128));
-    for field in 2..7 {
+    assert_eq!((word(&file, slot), file.len()), (1, 132));
+    for field in 2..8 {
         let mut stray = file.clone();
         set_word(&mut stray, slot + field, 1);
         refused(&stray, Fault::Rewritten);

@@ -21,7 +21,7 @@
 enum { IDLE, RADIO, DISPLAY, TASKS = DISPLAY };
 
 /* In bytes. docs/TARGETS.md has what each call takes; a switch adds 68 bytes, and the task's own functions come on top. */
-enum { TASK_STACK = 1792, IDLE_STACK = 1536, HANDLER_STACK = 1536 };
+enum { TASK_STACK = 1792, IDLE_STACK = 1600, HANDLER_STACK = 1536 };
 #define UNTOUCHED 0x5AFE57AC /* stands at the far end of each stack */
 
 static uint8_t tables[MAST_TABLES_LENGTH]; /* all zeros: not started yet */
@@ -97,10 +97,10 @@ static mast_answer expect(mast_answer answer)
     return answer;
 }
 
-static uint32_t create(uint32_t caller, uint32_t name, uint32_t count, uint32_t attributes)
+static uint32_t create(uint32_t caller, uint32_t name, uint32_t count, uint32_t attributes, uint32_t maximum)
 {
     uint32_t masked = mask();
-    return expect(heed(masked, mast_create(tables, sizeof tables, caller, name, count, attributes))).value;
+    return expect(heed(masked, mast_create(tables, sizeof tables, caller, name, count, attributes, maximum))).value;
 }
 
 /* How the obtain ended, waited for or not. If it waits, the switch comes with heed(), and the task goes on here when it is ready. */
@@ -253,8 +253,8 @@ __attribute__((noreturn, used)) void start(void)
     prepare(DISPLAY, display);
     PRIORITIES_OF_SYSTEM_HANDLERS = 0x00FF0000; /* PendSV least urgent, SysTick most */
     expect(heed(1, mast_start(tables, sizeof tables, 2, priorities, TASKS)));
-    packets = create(RADIO, 1, 0, MAST_COUNTING_SEMAPHORE | MAST_FIFO);
-    never = create(RADIO, 2, 0, MAST_COUNTING_SEMAPHORE | MAST_FIFO);
+    packets = create(RADIO, 1, 0, MAST_COUNTING_SEMAPHORE | MAST_FIFO, MAST_MAXIMUM_COUNT);
+    never = create(RADIO, 2, 0, MAST_COUNTING_SEMAPHORE | MAST_FIFO, 1);
     SYSTICK_RELOAD = CLOCK / TICKS - 1;
     SYSTICK_COUNT = 0;
     SYSTICK_CONTROL = 7; /* on, with its interrupt, by the processor's clock */

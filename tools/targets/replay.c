@@ -94,7 +94,7 @@ static int guards_hold(void)
 
 /* ---- one call, on a painted stack */
 
-static uint32_t kind, a, b, c, d;
+static uint32_t kind, a, b, c, d, e;
 static uint32_t priorities[MOST_PRIORITIES];
 static mast_answer answer;
 static cost most[FUNCTIONS];
@@ -104,7 +104,7 @@ static void make_call(void)
     STACK_POINTER(called_at);
     switch (kind) {
     case START: answer = mast_start(tables, length, a, b == 0 ? NULL : priorities, b); break;
-    case CREATE: answer = mast_create(tables, length, a, b, c, d); break;
+    case CREATE: answer = mast_create(tables, length, a, b, c, d, e); break;
     case IDENT: answer = mast_ident(tables, length, a); break;
     case IDENT_LOOKED: answer = mast_ident_looked(tables, length, a, &looked[1]); break;
     case DELETE: answer = mast_delete(tables, length, a, b); break;
@@ -155,7 +155,7 @@ static int as_recorded(uint32_t calls, const uint32_t recorded[NUMBERS])
 static int replay(uint32_t calls)
 {
     uint32_t recorded[NUMBERS] = { 0 };
-    a = word(), b = word(), c = word(), d = word();
+    a = word(), b = word(), c = word(), d = word(), e = word();
     if (kind == START) {
         if (b > MOST_PRIORITIES)
             refuse("the record has too many priorities\n");

@@ -4,7 +4,7 @@ import { readFileSync } from "node:fs";
 
 const [, , module, record] = process.argv;
 const NAMES = ["start", "create", "ident", "delete", "obtain", "release", "flush", "tick", "task"].map((name) => "mast_" + name);
-const NUMBERS = [1, 4, 1, 2, 4, 2, 2, 0, 1];
+const NUMBERS = [1, 5, 1, 2, 4, 2, 2, 0, 1];
 const [START, IDENT, LEND, WRITE, END] = [0, 2, 16, 17, 18];
 const [GUARD, GUARD_BYTE, MOST_BYTES, UNWRITTEN] = [64, 0xa5, 12000, 0xa5a55a5a];
 
@@ -72,7 +72,7 @@ for (let kind = word(); kind !== END; kind = word()) {
   if (kind === LEND) lend(word(), word());
   else if (kind === WRITE) write(word(), word());
   else {
-    const numbers = [word(), word(), word(), word()];
+    const numbers = [word(), word(), word(), word(), word()];
     const given = numbers.slice(0, NUMBERS[kind]);
     if (kind === START) {
       for (let each = 0; each < numbers[1]; each++) words.setUint32(priorities + 4 * each, word(), true);

@@ -12,7 +12,7 @@ def entry_length(kind, second):
         return 3
     if kind == WRITE:
         return 3 + (second + 3) // 4
-    return 9 + (second if kind == START else 0)
+    return 10 + (second if kind == START else 0)
 
 
 def main():

@@ -1,17 +1,41 @@
 /*
  * Saves machines to state files and loads them again on the library of this processor, at all four alignments, and compares every
  * answer and every byte: a file with one that is written here by hand, loaded tables with the saved ones, and what is refused with
- * what stood there. Of the files with one byte damaged those are read that tables give, and saving those tables gives them back. Says
- * how many comparisons there were and how many differ, and what replay.c says of stack and time. Ends with status 0 only if none differs.
+ * what stood there. Of the files with one byte damaged those are read that tables give, and saving those tables gives them back. A file
+ * of edition 1 is loaded too, and damaged. Says how many comparisons there were and how many differ, and what replay.c says of stack and
+ * time. Ends with status 0 only if none differs.
  */
 #include "mastclover.h"
 #include "processor.h"
 #include "painted.h"
 
-enum { LENGTH = 160, LONGEST = MAST_STATE_MAXIMUM, READABLE = 20, GUARD = 8, GUARD_BYTE = 0xA5, SHOWN = 5 };
+enum { LENGTH = 168, LONGEST = MAST_STATE_MAXIMUM, READABLE = 24, GUARD = 8, GUARD_BYTE = 0xA5, SHOWN = 5 };
+/* Of edition 1; and where edition 2 has slot 1's maximum, of which the other says nothing. */
+enum { OLD_LENGTH = 160, OLD_READABLE = 20, MAXIMUM_AT = 116, MAXIMUM_BYTES = 4 };
 
 /* What start_small() leaves: four bytes to a number, high byte first. */
 static const uint8_t by_hand[LENGTH] = {
+    /* edition 2, four bodies */
+    0, 0, 0, 2, 0, 0, 0, 4,
+    /* the kind, offset and length of each */
+    0, 0, 0, 1, 0, 0, 0, 56, 0, 0, 0, 32,
+    0, 0, 0, 2, 0, 0, 0, 88, 0, 0, 0, 64,
+    0, 0, 0, 3, 0, 0, 0, 152, 0, 0, 0, 12,
+    0, 0, 0, 4, 0, 0, 0, 164, 0, 0, 0, 4,
+    /* tasks: priority, answer, identifier waited on, ticks left */
+    0, 0, 0, 10, 0, 0, 0, 100, 0, 1, 0, 1, 0, 0, 3, 231,
+    0, 0, 0, 20, 0, 0, 0, 0, 0, 0, 0, 0, 0, 0, 0, 0,
+    /* slots: generation, live, name, attributes, count, owner, nest, maximum */
+    0, 0, 0, 1, 0, 0, 0, 1, 1, 2, 3, 4, 0, 0, 0, 4, 0, 0, 0, 0, 0, 0, 0, 0, 0, 0, 0, 0, 0, 1, 0, 12,
+    0, 0, 0, 2, 0, 0, 0, 1, 0, 0, 0, 9, 0, 0, 0, 20, 0, 0, 0, 0, 0, 0, 0, 2, 0, 0, 0, 2, 0, 0, 0, 1,
+    /* queues: task 1, nobody */
+    0, 0, 0, 1, 0, 0, 0, 1, 0, 0, 0, 0,
+    /* ready: task 2 */
+    0, 0, 0, 2,
+};
+
+/* The same machine as edition 1 wrote it. */
+static const uint8_t old_by_hand[OLD_LENGTH] = {
     /* edition 1, four bodies */
     0, 0, 0, 1, 0, 0, 0, 4,
     /* the kind, offset and length of each */
@@ -118,10 +142,10 @@ static void start_small(void)
     const size_t length = MAST_TABLES_LENGTH;
     uint32_t id;
     expect(mast_start(tables, length, 2, priorities, 2).status == MAST_SUCCESSFUL, "start");
-    expect(mast_create(tables, length, 1, 0x01020304, 0, MAST_PRIORITY).value == 65537, "create");
-    id = mast_create(tables, length, 2, 9, 1, MAST_SIMPLE_BINARY_SEMAPHORE).value;
+    expect(mast_create(tables, length, 1, 0x01020304, 0, MAST_PRIORITY, 65548).value == 65537, "create");
+    id = mast_create(tables, length, 2, 9, 1, MAST_SIMPLE_BINARY_SEMAPHORE, 1).value;
     expect(mast_delete(tables, length, 2, id).status == MAST_SUCCESSFUL, "delete");
-    id = mast_create(tables, length, 2, 9, 0, MAST_BINARY_SEMAPHORE | MAST_PRIORITY).value;
+    id = mast_create(tables, length, 2, 9, 0, MAST_BINARY_SEMAPHORE | MAST_PRIORITY, 1).value;
     expect(mast_obtain(tables, length, 2, id, MAST_WAIT, MAST_NO_TIMEOUT).status == MAST_SUCCESSFUL, "obtain");
     expect(mast_obtain(tables, length, 1, 65537, MAST_WAIT, 1000).status == MAST_WAITING, "wait");
     expect(mast_tick(tables, length).next == 2, "tick");
@@ -135,7 +159,7 @@ static void start_largest(void)
         priorities[task] = 1 + task % 4;
     mast_start(tables, MAST_TABLES_LENGTH, MAST_MAXIMUM_SLOTS, priorities, MAST_MAXIMUM_TASKS);
     for (uint32_t slot = 1; slot <= MAST_MAXIMUM_SLOTS; slot++)
-        mast_create(tables, MAST_TABLES_LENGTH, 1, slot, 0, MAST_PRIORITY);
+        mast_create(tables, MAST_TABLES_LENGTH, 1, slot, 0, MAST_PRIORITY, slot);
 }
 
 /* All of them wait in the last slot's queue. */
@@ -211,8 +235,48 @@ static void load_damaged(void)
         expect(same(file, by_hand, LENGTH), "the other bytes of a damaged file");
         memset(loaded, 0, MAST_TABLES_LENGTH);
     }
-    /* By hand too: both priorities' low bytes, task 1's ticks, both names, two bytes of slot 2's generation, and its nest. */
+    /* By hand too: both priorities' low bytes, task 1's ticks, both names, slot 1's maximum, two bytes of slot 2's generation, and its nest. */
     expect(read == READABLE, "how many damaged files are read");
+}
+
+/* Edition 1 is read as well: a counting semaphore gets the greatest maximum, and all else is what edition 2 has. */
+static void load_old(void)
+{
+    memmove(file, old_by_hand, OLD_LENGTH);
+    call(LOAD, loaded, OLD_LENGTH - 1);
+    answers(MAST_INVALID_SIZE, 0, 0, "a load of an edition 1 file that is cut by a byte");
+    call(LOAD, loaded, OLD_LENGTH + 1);
+    answers(MAST_INVALID_SIZE, 0, 0, "a load of an edition 1 file with a byte too many");
+    expect(all(loaded, MAST_TABLES_LENGTH, 0), "the tables when an edition 1 file is refused");
+    call(LOAD, loaded, OLD_LENGTH);
+    answers(MAST_SUCCESSFUL, 0, 2, "the answer of a load of edition 1");
+    expect(same(file, old_by_hand, OLD_LENGTH), "the bytes of an edition 1 file that is loaded");
+    call(SAVE, loaded, LENGTH);
+    answers(MAST_SUCCESSFUL, LENGTH, 2, "the answer of a save after edition 1 was loaded");
+    expect(all(file + MAXIMUM_AT, MAXIMUM_BYTES, 0xFF), "the maximum of a counting semaphore of edition 1");
+    memmove(file + MAXIMUM_AT, by_hand + MAXIMUM_AT, MAXIMUM_BYTES);
+    expect(same(file, by_hand, LENGTH), "the other bytes of a file saved after edition 1 was loaded");
+    memset(loaded, 0, MAST_TABLES_LENGTH);
+}
+
+/* Each byte of it in turn; what else is in the file is the same in both editions, and so is what is read. */
+static void load_damaged_old(void)
+{
+    uint32_t read = 0;
+    memmove(file, old_by_hand, OLD_LENGTH);
+    for (size_t at = 0; at < OLD_LENGTH; at++) {
+        file[at] ^= 1;
+        call(LOAD, loaded, OLD_LENGTH);
+        file[at] ^= 1;
+        if (answer.status == MAST_SUCCESSFUL) {
+            read++;
+            memset(loaded, 0, MAST_TABLES_LENGTH);
+            continue;
+        }
+        answers(MAST_INVALID_SIZE, 0, 0, "a load of a damaged edition 1 file");
+        expect(all(loaded, MAST_TABLES_LENGTH, 0), "the tables when a damaged edition 1 file is refused");
+    }
+    expect(read == OLD_READABLE, "how many damaged edition 1 files are read");
 }
 
 static void try_small(void)
@@ -227,6 +291,8 @@ static void try_small(void)
     memset(loaded, 0, MAST_TABLES_LENGTH);
     refuse_loads();
     load_damaged();
+    load_old();
+    load_damaged_old();
 }
 
 static void try_largest(void)

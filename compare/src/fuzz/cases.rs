@@ -1,6 +1,7 @@
 //! The cases that the rules name, P1 to P15 among them, run on any manager.
 
 mod idents;
+mod maxima;
 
 use std::fmt::Debug;
 
@@ -49,8 +50,15 @@ impl Case<'_> {
         self.expect(Call::Start { slots, priorities: priorities.to_vec() }, 0, 0, next);
     }
 
+    /// A create with the greatest maximum of its class.
     fn create(&mut self, caller: u32, name: u32, count: u32, attributes: u32, wanted: [u32; 3]) {
-        let call = Call::Create { caller, name, count, attributes };
+        self.expect(Call::create(caller, name, count, attributes), wanted[0], wanted[1], wanted[2]);
+    }
+
+    /// A create with caller, name, count, attributes and maximum.
+    fn create_up_to(&mut self, numbers: [u32; 5], wanted: [u32; 3]) {
+        let [caller, name, count, attributes, maximum] = numbers;
+        let call = Call::Create { caller, name, count, attributes, maximum };
         self.expect(call, wanted[0], wanted[1], wanted[2]);
     }
 
@@ -84,22 +92,22 @@ const CASES: [Named; 20] = [
     ("P1 to P11", worked_session),
     ("P12", |case| {
         case.start(1, &[1], 1);
-        case.create(1, 5, u32::MAX, 0, [0, 65537, 1]);
+        case.create_up_to([1, 5, u32::MAX, 0, u32::MAX], [0, 65537, 1]);
         case.release(1, 65537, [13, 0, 1]);
     }),
     ("P13", |case| {
         case.start(1, &[1], 1);
-        case.create(1, 5, 1, 32, [0, 65537, 1]);
+        case.create_up_to([1, 5, 1, 32, 1], [0, 65537, 1]);
         case.release(0, 65537, [13, 0, 1]);
     }),
     ("P14", |case| {
         case.start(1, &[1], 1);
-        case.create(1, 5, 1, 16, [0, 65537, 1]);
+        case.create_up_to([1, 5, 1, 16, 1], [0, 65537, 1]);
         case.release(0, 65537, [23, 0, 1]);
     }),
     ("P15", |case| {
         case.start(1, &[10, 10], 1);
-        case.create(1, 77, 0, 0, [0, 65537, 1]);
+        case.create_up_to([1, 77, 0, 0, u32::MAX], [0, 65537, 1]);
         case.obtain(1, 65537, 0, [100, 0, 2]);
         case.release(2, 65537, [0, 0, 2]);
     }),
@@ -247,7 +255,7 @@ const CASES: [Named; 20] = [
     ("nest at its end", |case| {
         case.start(1, &[1], 1);
         case.create(1, 9, 0, 16, [0, 65537, 1]);
-        layout::set_word(case.tables.bytes_mut(), layout::slot_at(0) + 6, u32::MAX);
+        layout::set_word(case.tables.bytes_mut(), layout::slot_at(0) + layout::NEST, u32::MAX);
         case.obtain(1, 65537, 0, [13, 0, 1]);
         case.release(1, 65537, [0, 0, 1]);
         case.obtain(1, 65537, 0, [0, 0, 1]);
@@ -277,7 +285,7 @@ const CASES: [Named; 20] = [
 
 fn worked_session(case: &mut Case) {
     case.start(4, &[10, 20], 1);
-    case.create(1, 77, 1, 20, [0, 65537, 1]);
+    case.create_up_to([1, 77, 1, 20, 1], [0, 65537, 1]);
     case.obtain(2, 65537, 0, [0, 0, 1]);
     case.obtain(1, 65537, 3, [100, 0, 2]);
     case.expect(Call::Tick, 0, 0, 2);
@@ -286,13 +294,13 @@ fn worked_session(case: &mut Case) {
     case.release(1, 65537, [0, 0, 1]);
     case.expect(Call::Delete { caller: 1, id: 65537 }, 0, 0, 1);
     case.obtain(1, 65537, 0, [4, 0, 1]);
-    case.create(1, 78, 2, 0, [0, 131073, 1]);
+    case.create_up_to([1, 78, 2, 0, u32::MAX], [0, 131073, 1]);
 }
 
 /// Runs every case; how many calls were made, or the first answer that is not the rules'.
 pub fn run(subject: &mut dyn Manager) -> Result<u64, String> {
     let mut done = 0;
-    for (name, run_case) in CASES.into_iter().chain(idents::CASES) {
+    for (name, run_case) in CASES.into_iter().chain(idents::CASES).chain(maxima::CASES) {
         let mut case = Case { subject, tables: Lent::new(&[0; LENGTH], 0), done: 0, failed: None };
         run_case(&mut case);
         if let Some(failure) = case.failed {

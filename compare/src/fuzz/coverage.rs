@@ -1,6 +1,7 @@
 //! What has occurred in a comparison, and what has to.
 
 mod equals;
+mod maxima;
 mod searches;
 
 pub use equals::next_passes_a_lower_equal;
@@ -88,13 +89,18 @@ impl Coverage {
         } else if let Some(machine) = layout::read_with_sequence_mended(bytes) {
             let places: Vec<u32> = (SEQUENCE..WORDS).map(|at| word(bytes, at)).collect();
             self.damaged_sequence(&machine, word(bytes, READY), &places);
+        } else if let Some(machine) = layout::read_with_maxima_mended(bytes) {
+            self.damaged_maxima(&machine, bytes);
         }
     }
 
     /// Counts what a call did, given the machine before and after it.
     pub fn saw(&mut self, before: &Machine, call: &Call, answer: Answer, after: &Machine) {
         match *call {
-            Call::Create { caller, .. } => self.saw_create(before, caller, answer),
+            Call::Create { caller, .. } => {
+                self.saw_create(before, caller, answer);
+                self.saw_maximum(before, call, answer);
+            }
             Call::Ident { name } => {
                 let named = |live: &&Semaphore| live.name == name;
                 let twins = before.slots.iter().filter_map(|slot| slot.live.as_ref()).filter(named);
@@ -175,7 +181,9 @@ impl Coverage {
         let refused = answer.status == UNSATISFIED;
         self.happened("release of a nest", done && live.nest > 1);
         self.happened("release refused at count 4294967295", refused && live.count == u32::MAX);
-        self.happened("release refused at simple binary 1", refused && live.count == 1);
+        let simple = live.class == Class::SimpleBinary;
+        self.happened("release refused at simple binary 1", refused && simple);
+        self.released_at_maximum(live, answer);
         let nobodys = caller == 0 && live.class == Class::Binary && live.owner == 0;
         self.happened("release of an unowned binary by an interrupt", nobodys);
         let name = match live.class {
@@ -210,7 +218,8 @@ impl Coverage {
         }
         let foreign = self.statuses.keys().filter(|(kind, status)| !STATUSES[*kind].contains(status));
         gaps.extend(foreign.map(|(kind, status)| format!("{} answered {status}", KINDS[*kind])));
-        let wanted = HAPPENINGS.into_iter().chain(equals::wanted()).chain(searches::wanted());
+        let of_parts = equals::wanted().chain(searches::wanted()).chain(maxima::wanted());
+        let wanted = HAPPENINGS.into_iter().chain(of_parts);
         let missing = wanted.filter(|name| !self.happenings.contains_key(name));
         gaps.extend(missing.map(|name| format!("never seen: {name}")));
         gaps

@@ -111,7 +111,7 @@ fn every_small_number(comparison: &mut Comparison) -> Compared {
 fn every_sequence(comparison: &mut Comparison) -> Compared {
     let machine = made_by(&[
         Call::Start { slots: 1, priorities: vec![2; 3] },
-        Call::Create { caller: 1, name: 9, count: 0, attributes: 4 },
+        Call::create(1, 9, 0, 4),
         wait(2, 65537, 1),
     ]);
     let calls = probes(&mut Rng::new(0), &machine);
@@ -216,7 +216,7 @@ pub fn bases() -> Vec<Machine> {
 fn equals() -> Machine {
     let made = made_by(&[
         Call::Start { slots: 1, priorities: vec![4; 6] },
-        Call::Create { caller: 1, name: 9, count: 0, attributes: 0 },
+        Call::create(1, 9, 0, 0),
         wait(3, 65537, 0),
         wait(5, 65537, 0),
         wait(2, 65537, 0),
@@ -234,8 +234,8 @@ fn equals() -> Machine {
 fn small() -> Machine {
     made_by(&[
         Call::Start { slots: 2, priorities: vec![3, 2, 2] },
-        Call::Create { caller: 3, name: 9, count: 0, attributes: 20 },
-        Call::Create { caller: 3, name: 9, count: 1, attributes: 32 },
+        Call::create(3, 9, 0, 20),
+        Call::create(3, 9, 1, 32),
         wait(1, 65537, 4),
         wait(2, 65537, 0),
     ])
@@ -246,8 +246,7 @@ fn crowded() -> Machine {
     let priorities = (0..32).map(|task| 1 + task % 5).collect();
     let mut calls = vec![Call::Start { slots: 64, priorities }];
     for slot in 0..64 {
-        let attributes = [0, 4, 16, 20, 32, 36][slot as usize % 6];
-        calls.push(Call::Create { caller: 32, name: 1 + slot % 40, count: slot / 6 % 2, attributes });
+        calls.push(crowded_create(slot));
     }
     // Freed slots keep their generation.
     calls.extend([1, 8, 26, 62].map(|slot| Call::Delete { caller: 32, id: 65536 + slot }));
@@ -255,13 +254,20 @@ fn crowded() -> Machine {
     made_by(&calls)
 }
 
+/// Counts of 0 and 1, and of the counting ones maxima at the count, next to it and far above it.
+fn crowded_create(slot: u32) -> Call {
+    let attributes = [0, 4, 16, 20, 32, 36][slot as usize % 6];
+    let maximum = match attributes {
+        0 | 4 => [1, 12, 2, u32::MAX, u32::MAX - 1][slot as usize / 6 % 5],
+        _ => 1,
+    };
+    Call::Create { caller: 32, name: 1 + slot % 40, count: slot / 6 % 2, attributes, maximum }
+}
+
 /// 31 tasks wait in one PRIORITY queue for a binary semaphore.
 fn long_queue() -> Machine {
     let priorities = (0..32).map(|task| 255 - task / 2).collect();
-    let mut calls = vec![
-        Call::Start { slots: 1, priorities },
-        Call::Create { caller: 32, name: 1, count: 0, attributes: 20 },
-    ];
+    let mut calls = vec![Call::Start { slots: 1, priorities }, Call::create(32, 1, 0, 20)];
     calls.extend((1..=31).map(|task| wait(task, 65537, 33 - task)));
     made_by(&calls)
 }

@@ -123,10 +123,22 @@ fn draw_create(rng: &mut Rng, machine: &Machine) -> Call {
         _ => rng.pick(&ATTRIBUTES),
     };
     let count = match attributes & (BINARY + SIMPLE_BINARY) {
-        0 => rng.pick(&[0, 0, 1, 2, 3, u32::MAX - 1, u32::MAX, any]),
+        0 => rng.pick(&[0, 0, 1, 2, 3, 11, 12, u32::MAX - 1, u32::MAX, any]),
         _ => rng.pick(&[0, 0, 0, 1, 1, 1, 2, u32::MAX]),
     };
-    Call::Create { caller, name: draw_name(rng), count, attributes }
+    let maximum = draw_maximum(rng, attributes, count);
+    Call::Create { caller, name: draw_name(rng), count, attributes, maximum }
+}
+
+/// A maximum, mostly one that create allows: its limits, small ones, the count and what is next to it.
+fn draw_maximum(rng: &mut Rng, attributes: u32, count: u32) -> u32 {
+    let any = rng.word();
+    let (below, above) = (count.wrapping_sub(1), count.wrapping_add(1));
+    let seldom = rng.pick(&[0, 2, 12, below, above, u32::MAX - 1, u32::MAX, any]);
+    match attributes & (BINARY + SIMPLE_BINARY) {
+        0 => rng.pick(&[1, 2, 12, count, count, above, u32::MAX, u32::MAX, u32::MAX, seldom]),
+        _ => rng.pick(&[1, 1, 1, 1, 1, 1, 1, 1, seldom]),
+    }
 }
 
 fn draw_release(rng: &mut Rng, machine: &Machine) -> Call {

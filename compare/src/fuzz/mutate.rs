@@ -1,7 +1,9 @@
 //! Random damage to agreeing tables, some of which leaves them in agreement.
 
+mod maximum;
 mod ready;
 
+use crate::fuzz::mutate::maximum::damage_maximum;
 use crate::fuzz::mutate::ready::{damage_sequence, join_sequence, leave_sequence};
 use crate::fuzz::rng::Rng;
 use crate::layout::*;
@@ -10,7 +12,7 @@ use crate::status::*;
 
 /// Does one random damage and says which.
 pub fn mutate(rng: &mut Rng, machine: &Machine, bytes: &mut [u8]) -> String {
-    match rng.below(14) {
+    match rng.below(16) {
         0 => flip_bit(rng, bytes),
         1 | 2 => set_some_word(rng, machine, bytes),
         3 => swap_words(rng, machine, bytes),
@@ -19,6 +21,7 @@ pub fn mutate(rng: &mut Rng, machine: &Machine, bytes: &mut [u8]) -> String {
         6 => drop_waiter(rng, machine, bytes),
         7 => free_slot(rng, machine, bytes),
         8 | 9 => add_waiter(rng, machine, bytes),
+        10 | 11 => damage_maximum(rng, machine, bytes),
         _ => damage_sequence(rng, machine, bytes),
     }
 }

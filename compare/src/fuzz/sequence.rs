@@ -70,14 +70,19 @@ fn edit_every_semaphore(rng: &mut Rng, machine: &Machine, bytes: &mut [u8]) {
     }
 }
 
-/// Nest of an owned binary, or count of a counting semaphore without a queue.
+/// Nest of an owned binary, or count and maximum of a counting semaphore.
 fn edit_semaphore(rng: &mut Rng, machine: &Machine, index: usize, bytes: &mut [u8]) {
     let Some(live) = &machine.slots[index].live else { return };
     let number = rng.pick(&[u32::MAX, u32::MAX, u32::MAX - 1, 1, 2, 1 << 16, 1 << 31]);
     if live.owner != 0 {
         set_word(bytes, slot_at(index) + NEST, number);
-    } else if live.class == Class::Counting && live.queue.is_empty() {
-        set_word(bytes, slot_at(index) + COUNT, number);
+    } else if live.class == Class::Counting {
+        let count = if live.queue.is_empty() { number } else { 0 };
+        let next = count.saturating_add(1);
+        // Mostly at the count or next to it, so that releases soon reach it.
+        let maximum = rng.pick(&[count.max(1), count.max(1), next, u32::MAX]);
+        set_word(bytes, slot_at(index) + COUNT, count);
+        set_word(bytes, slot_at(index) + MAXIMUM, maximum);
     }
 }
 

@@ -44,7 +44,7 @@ pub fn queues() -> Vec<u8> {
     let mut calls = vec![Call::Start { slots: 64, priorities }];
     for slot in 0..64 {
         let attributes = [0, 4, 16, 20, 32, 36][slot as usize % 6];
-        calls.push(Call::Create { caller: 32, name: 1 + slot % 10, count: 0, attributes });
+        calls.push(Call::create(32, 1 + slot % 10, 0, attributes));
     }
     for task in 1..=30 {
         let id = 65536 + 1 + 7 * (task % 9);
@@ -85,7 +85,7 @@ fn opening(slots: u32, priorities: &[u32]) -> Vec<Call> {
     let mut calls = vec![Call::Start { slots, priorities: priorities.to_vec() }];
     for slot in 0..slots * 3 / 4 {
         let attributes = [0, 4, 16, 20, 32, 36][slot as usize % 6];
-        calls.push(Call::Create { caller: 1, name: 1 + slot % 10, count: 1, attributes });
+        calls.push(Call::create(1, 1 + slot % 10, 1, attributes));
     }
     calls
 }

@@ -97,7 +97,7 @@ fn queued_tasks(task_words: &[[u8; 4]], tasks: u32, index: usize, slot: &[[u8; 4
     let id = generation << 16 | (index as u32 + 1);
     let attributes = get(slot, ATTRIBUTES);
     let queued = waiters_on(task_words, tasks, id, attributes, &slot[QUEUE..QUEUE + length])?;
-    let state = [get(slot, COUNT), get(slot, OWNER), get(slot, NEST)];
+    let state = [get(slot, COUNT), get(slot, OWNER), get(slot, NEST), get(slot, MAXIMUM)];
     holds_together(tasks, attributes, state, queued).then_some(queued)
 }
 
@@ -128,18 +128,19 @@ fn waiters_on(
     Some(queued)
 }
 
-fn holds_together(tasks: u32, attributes: u32, state: [u32; 3], queued: u32) -> bool {
-    let [count, owner, nest] = state;
+fn holds_together(tasks: u32, attributes: u32, state: [u32; 4], queued: u32) -> bool {
+    let [count, owner, nest, maximum] = state;
     let unowned = owner == 0 && nest == 0;
     let queue_allows = queued == 0 || count == 0;
     queue_allows
         && match attributes {
-            0 | 4 => unowned,
-            32 | 36 => unowned && count <= 1,
-            16 | 20 if count == 1 => unowned,
+            0 | 4 => unowned && maximum >= 1 && count <= maximum,
+            32 | 36 => unowned && maximum == 1 && count <= 1,
+            16 | 20 if count == 1 => unowned && maximum == 1,
             16 | 20 => {
                 let owner_is_task = owner >= 1 && owner <= tasks;
-                count == 0 && owner_is_task && queued & (1 << (owner - 1)) == 0 && nest >= 1
+                let held = count == 0 && owner_is_task && nest >= 1;
+                held && queued & (1 << (owner - 1)) == 0 && maximum == 1
             }
             _ => false,
         }
@@ -149,8 +150,8 @@ fn holds_together(tasks: u32, attributes: u32, state: [u32; 3], queued: u32) -> 
 pub fn serve(words: &mut Words, call: &Call) -> Answer {
     match *call {
         Call::Start { slots, ref priorities } => inplace::start(words, slots, priorities),
-        Call::Create { caller, name, count, attributes } => {
-            inplace::create(words, caller, name, count, attributes)
+        Call::Create { caller, name, count, attributes, maximum } => {
+            inplace::create(words, caller, name, count, attributes, maximum)
         }
         Call::Ident { name } => inplace::ident(words, name),
         Call::Delete { caller, id } => inplace::delete(words, caller, id),

@@ -30,6 +30,8 @@ impl Machine {
         semaphore.name != 0
             && semaphore.queue.iter().all(|task| tasks.contains(task))
             && (semaphore.queue.is_empty() || semaphore.count == 0)
+            && semaphore.class.allows(semaphore.maximum)
+            && semaphore.count <= semaphore.maximum
             && self.is_in_order(semaphore)
             && self.holds_together(semaphore)
     }
@@ -42,8 +44,7 @@ impl Machine {
     fn holds_together(&self, semaphore: &Semaphore) -> bool {
         let unowned = semaphore.owner == 0 && semaphore.nest == 0;
         match semaphore.class {
-            Class::Counting => unowned,
-            Class::SimpleBinary => unowned && semaphore.count <= 1,
+            Class::Counting | Class::SimpleBinary => unowned,
             Class::Binary if semaphore.count == 1 => unowned,
             Class::Binary => {
                 semaphore.count == 0

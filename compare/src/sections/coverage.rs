@@ -11,7 +11,7 @@ use crate::sections::*;
 use crate::status::*;
 
 /// Everything that random runs have to have shown, besides refusals and faults of the file.
-const HAPPENINGS: [&str; 59] = [
+const HAPPENINGS: [&str; 60] = [
     "11 before 4",
     "an event of no kind behind all others",
     "33 scripts or more",
@@ -35,6 +35,7 @@ const HAPPENINGS: [&str; 59] = [
     "call: start refused",
     "call: create done",
     "call: create refused",
+    "call: create refused with 10",
     "call: ident done",
     "call: ident refused",
     "call: delete done",
@@ -203,6 +204,18 @@ impl Coverage {
         self.happened("call by a waiting task", answer.status == INCORRECT_STATE && name != "start");
         let above = caller.is_some_and(|caller| caller as usize > before.machine.tasks.len());
         self.happened("call of a caller above N", above);
+        self.call_of(input, call, answer, before, after);
+    }
+
+    /// Counts what a call did to a semaphore that sections have to do with.
+    fn call_of(
+        &mut self,
+        input: &Input,
+        call: &Call,
+        answer: &Answer,
+        before: &Running,
+        after: &Running,
+    ) {
         let guarded = |test: &dyn Fn(u32) -> bool| {
             input.scripts.iter().flat_map(|script| &script.sections).any(|section| test(section.id))
         };
@@ -232,6 +245,7 @@ impl Coverage {
                 );
             }
             Call::Create { .. } => {
+                self.happened("call: create refused with 10", answer.status == INVALID_NUMBER);
                 let reuses = |other: u32| done && other % 65536 == answer.value % 65536;
                 self.happened("create in a slot that a section's identifier named", guarded(&reuses));
             }

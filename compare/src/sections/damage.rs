@@ -4,7 +4,7 @@ use std::collections::BTreeMap;
 
 use crate::call::Answer;
 use crate::fuzz::rng::Rng;
-use crate::layout::{set_word, task_at, word, LENGTH, READY, SEQUENCE};
+use crate::layout::{set_word, slot_at, task_at, word, LENGTH, MAXIMUM, READY, SEQUENCE, SLOTS};
 use crate::sections::draw::random_run;
 use crate::sections::lent::{Lent, GRANTS, PLACES};
 use crate::sections::read::read;
@@ -12,7 +12,7 @@ use crate::sections::rows::{ROW, SCRIPT};
 use crate::status::MOST_TASKS;
 
 /// What can be wrong with what is lent, besides what a text can say.
-const DAMAGES: [&str; 16] = [
+const DAMAGES: [&str; 17] = [
     "none",
     "places too short",
     "places longer",
@@ -29,6 +29,7 @@ const DAMAGES: [&str; 16] = [
     "a byte of the tables",
     "two places of the ready sequence swapped",
     "a word of the ready sequence",
+    "the maximum of a slot",
 ];
 
 /// A run as numbers with the name of its damage, or nothing if the seed's text is no run.
@@ -66,23 +67,34 @@ fn damage(rng: &mut Rng, lent: &mut Lent, kind: usize) {
         11 => replace(rng, &mut lent.events),
         12 => lent.events.truncate(rng.below(lent.events.len() + 1)),
         13 if rng.chance(20) => lent.tables.resize(rng.pick(&[0, 1, LENGTH - 1, LENGTH + 1]), 0),
+        _ => damage_tables(rng, &mut lent.tables, kind),
+    }
+}
+
+fn damage_tables(rng: &mut Rng, tables: &mut [u8], kind: usize) {
+    match kind {
         13 => {
             // Most bytes may not change; the low byte of task 1's priority may.
-            let any = rng.below(lent.tables.len());
+            let any = rng.below(tables.len());
             let at = rng.pick(&[any, 4 * task_at(1) + 3]);
-            lent.tables[at] ^= 1 << rng.below(8);
+            tables[at] ^= 1 << rng.below(8);
         }
         14 => {
-            let ready = (word(&lent.tables, READY) as usize).max(1);
+            let ready = (word(tables, READY) as usize).max(1);
             let (one, other) = (SEQUENCE + rng.below(ready), SEQUENCE + rng.below(ready));
-            let (first, second) = (word(&lent.tables, one), word(&lent.tables, other));
-            set_word(&mut lent.tables, one, second);
-            set_word(&mut lent.tables, other, first);
+            let (first, second) = (word(tables, one), word(tables, other));
+            set_word(tables, one, second);
+            set_word(tables, other, first);
+        }
+        15 => {
+            let ready = word(tables, READY) as usize;
+            let at = READY + rng.below(ready + 2).min(MOST_TASKS);
+            set_word(tables, at, rng.pick(&[0, 1, 2, 3, 4, 33, u32::MAX]));
         }
         _ => {
-            let ready = word(&lent.tables, READY) as usize;
-            let at = READY + rng.below(ready + 2).min(MOST_TASKS);
-            set_word(&mut lent.tables, at, rng.pick(&[0, 1, 2, 3, 4, 33, u32::MAX]));
+            let slots = word(tables, SLOTS) as usize;
+            let at = slot_at(rng.below(slots.max(1))) + MAXIMUM;
+            set_word(tables, at, rng.pick(&[0, 1, 1, 2, 12, u32::MAX]));
         }
     }
 }
@@ -104,8 +116,8 @@ impl Statuses {
     /// What has to occur: each damage, what it is refused with, and runs that all the same are not refused.
     pub fn gaps(&self) -> Vec<String> {
         let refused = [1, 5, 6, 8, 9, 10, 11, 12].map(|kind| (DAMAGES[kind], 11));
-        let fine = [0, 2, 3, 4, 7, 10, 11, 12, 13, 14, 15].map(|kind| (DAMAGES[kind], 0));
-        let damaged = [13, 15].map(|kind| (DAMAGES[kind], 25));
+        let fine = [0, 2, 3, 4, 7, 10, 11, 12, 13, 14, 15, 16].map(|kind| (DAMAGES[kind], 0));
+        let damaged = [13, 15, 16].map(|kind| (DAMAGES[kind], 25));
         let others = [(DAMAGES[0], 4), (DAMAGES[0], 11), (DAMAGES[8], 4)];
         let wanted = refused.iter().chain(&fine).chain(&damaged).chain(&others);
         let missing = wanted.filter(|key| !self.seen.contains_key(key));

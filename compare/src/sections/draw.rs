@@ -9,6 +9,7 @@ use crate::sections::spoil::{break_text, spoil};
 use crate::sections::write::{cell_lines, event_line, input_lines, local_lines, script_lines};
 use crate::sections::*;
 use crate::session::lines::line_of;
+use crate::status::greatest_maximum;
 
 /// Lines of the first part that are skipped there, whatever they would be later.
 const SKIPPED: [&str; 8] =
@@ -96,21 +97,20 @@ fn draw_setup(rng: &mut Rng) -> Vec<Call> {
     let spread = rng.pick(&[1, 3, 255]);
     let priorities = (0..tasks).map(|_| rng.between(1, spread)).collect();
     let mut calls = vec![Call::Start { slots, priorities }];
-    let create = |caller, name, count, attributes| Call::Create { caller, name, count, attributes };
     for name in 1..=guarded {
         if rng.chance(15) {
             let id = identifier(1, name as usize - 1);
-            calls.extend([create(1, 9, 1, 0), Call::Delete { caller: 1, id }]);
+            calls.extend([Call::create(1, 9, 1, 0), Call::Delete { caller: 1, id }]);
         }
-        calls.push(create(rng.between(1, tasks), name, 1, rng.pick(&[16, 20])));
+        calls.push(Call::create(rng.between(1, tasks), name, 1, rng.pick(&[16, 20])));
     }
     if other {
         let (count, attributes) = rng.pick(&[(0, 16), (0, 20), (1, 32), (0, 36), (2, 0), (1, 4)]);
-        calls.push(create(tasks, 4, count, attributes));
+        calls.push(Call::create(tasks, 4, count, attributes));
     }
     if waits {
         let id = identifier(1, (guarded + u32::from(other)) as usize);
-        calls.push(create(1, 5, 0, rng.pick(&[0, 4, 32])));
+        calls.push(Call::create(1, 5, 0, rng.pick(&[0, 4, 32])));
         calls.push(Call::Obtain { caller: tasks, id, options: 0, timeout: rng.pick(&[0, 0, 2, 5]) });
     }
     calls
@@ -249,7 +249,9 @@ fn draw_event(
         5 => Call::Delete { caller, id },
         6 => {
             let (count, attributes) = rng.pick(&[(2, 0), (1, 16), (1, 20), (0, 16), (1, 32), (2, 4)]);
-            Call::Create { caller, name: rng.between(0, 4), count, attributes }
+            let greatest = greatest_maximum(attributes);
+            let maximum = rng.pick(&[greatest, greatest, greatest, 0, 1, 2, 12]);
+            Call::Create { caller, name: rng.between(0, 4), count, attributes, maximum }
         }
         7 => Call::Ident { name: rng.between(0, 5) },
         8 => Call::Start { slots: rng.between(0, 3), priorities: vec![1; rng.below(4)] },

@@ -97,8 +97,8 @@ fn call_numbers(call: &Call, numbers: &mut Vec<u32>) {
             numbers.extend([START, slots, priorities.len() as u32]);
             numbers.extend(priorities);
         }
-        Call::Create { caller, name, count, attributes } => {
-            numbers.extend([CREATE, caller, name, count, attributes]);
+        Call::Create { caller, name, count, attributes, maximum } => {
+            numbers.extend([CREATE, caller, name, count, attributes, maximum]);
         }
         Call::Ident { name } => numbers.extend([IDENT, name]),
         Call::Delete { caller, id } => numbers.extend([DELETE, caller, id]),
@@ -133,7 +133,8 @@ fn event_of(numbers: &[u32]) -> Option<(Event, &[u32])> {
         TICK => 0,
         TURN | IDENT => 1,
         DELETE | RELEASE | FLUSH => 2,
-        CREATE | OBTAIN => 4,
+        OBTAIN => 4,
+        CREATE => 5,
         START => 2 + *rest.get(1)? as usize,
         _ => return None,
     };
@@ -143,7 +144,9 @@ fn event_of(numbers: &[u32]) -> Option<(Event, &[u32])> {
         (START, &[slots, _, ref priorities @ ..]) => {
             Call::Start { slots, priorities: priorities.to_vec() }
         }
-        (CREATE, &[caller, name, count, attributes]) => Call::Create { caller, name, count, attributes },
+        (CREATE, &[caller, name, count, attributes, maximum]) => {
+            Call::Create { caller, name, count, attributes, maximum }
+        }
         (IDENT, &[name]) => Call::Ident { name },
         (DELETE, &[caller, id]) => Call::Delete { caller, id },
         (OBTAIN, &[caller, id, options, timeout]) => Call::Obtain { caller, id, options, timeout },

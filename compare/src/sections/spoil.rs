@@ -213,7 +213,7 @@ fn let_script_task_call(rng: &mut Rng, input: &mut Input) {
     let caller = input.scripts[rng.below(input.scripts.len())].task;
     let id = rng.pick(&[65537, 65538, 0]);
     let call = match rng.below(5) {
-        0 => Call::Create { caller, name: 3, count: 1, attributes: rng.pick(&[0, 48]) },
+        0 => Call::create(caller, 3, 1, rng.pick(&[0, 48])),
         1 => Call::Delete { caller, id },
         2 => Call::Obtain { caller, id, options: 0, timeout: 0 },
         3 => Call::Release { caller, id },

@@ -14,8 +14,8 @@ pub fn line_of(call: &Call) -> Option<String> {
             let numbers: String = priorities.iter().map(|priority| format!(" {priority}")).collect();
             format!("start {slots}{numbers}")
         }
-        Call::Create { caller, name, count, attributes } => {
-            format!("create {caller} {name} {count} {attributes}")
+        Call::Create { caller, name, count, attributes, maximum } => {
+            format!("create {caller} {name} {count} {attributes} {maximum}")
         }
         Call::Ident { name } => format!("ident {name}"),
         Call::Delete { caller, id } => format!("delete {caller} {id}"),
@@ -91,7 +91,7 @@ fn any_byte(rng: &mut Rng) -> u8 {
 pub fn break_line(rng: &mut Rng, mut line: Vec<u8>) -> Vec<u8> {
     let at = rng.below(line.len() + 1);
     let space = line.iter().position(|&byte| byte == b' ').unwrap_or(line.len());
-    match rng.below(13) {
+    match rng.below(14) {
         0 => line.clear(),
         1 => line.insert(0, b' '),
         2 => line.push(b' '),
@@ -109,6 +109,8 @@ pub fn break_line(rng: &mut Rng, mut line: Vec<u8>) -> Vec<u8> {
             b"99999",
         ])),
         11 => line[0] = line[0].to_ascii_uppercase(),
+        // A number too few, as a create without its maximum.
+        12 => line.truncate(line.iter().rposition(|&byte| byte == b' ').unwrap_or(0)),
         _ => line.splice(..space, *b"task").for_each(drop),
     }
     line

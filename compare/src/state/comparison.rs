@@ -7,7 +7,7 @@ use crate::fuzz::lent::Lent;
 use crate::fuzz::rng::Rng;
 use crate::layout::{self, Model};
 use crate::state::seen::Seen;
-use crate::state::{load_or_fault, Keeper};
+use crate::state::{load_or_fault, Keeper, EDITION};
 
 /// What differs, in words.
 pub type Compared<T = ()> = Result<T, String>;
@@ -15,6 +15,8 @@ pub type Compared<T = ()> = Result<T, String>;
 /// A keeper under comparison, and what has been seen of it.
 pub struct Comparison<'a> {
     subject: &'a mut dyn Keeper,
+    /// The edition of the files to be loaded, before any damage.
+    pub edition: u32,
     pub seen: Seen,
     pub saves: u64,
     pub loads: u64,
@@ -23,7 +25,7 @@ pub struct Comparison<'a> {
 
 impl<'a> Comparison<'a> {
     pub fn new(subject: &'a mut dyn Keeper) -> Self {
-        Comparison { subject, seen: Seen::default(), saves: 0, loads: 0, calls: 0 }
+        Comparison { subject, edition: EDITION, seen: Seen::default(), saves: 0, loads: 0, calls: 0 }
     }
 
     /// One save; the answer, every byte of the buffer and every byte of the tables are compared.
@@ -51,7 +53,8 @@ impl<'a> Comparison<'a> {
         let (expected, fault) = load_or_fault(&mut wanted, file);
         let found = self.subject.load(tables.bytes_mut(), file);
         self.loads += 1;
-        self.seen.loaded(part, expected.status, fault);
+        self.seen.loaded(self.edition, part, expected.status, fault);
+        self.seen.refused_for_maxima(self.edition, fault, file);
         let told = |said: String| match fault {
             Some(fault) => format!("load, {part}, length {}, {fault}: {said}", before.len()),
             None => format!("load, {part}, length {}: {said}", before.len()),

@@ -9,7 +9,7 @@ use crate::state::comparison::Compared;
 use crate::state::round::Round;
 use crate::state::seen::{loads, saves};
 use crate::state::sheet::{wrapped, Sheet};
-use crate::state::{BODIES, LONGEST, SLOT_NUMBERS, TASK_NUMBERS};
+use crate::state::{slot_numbers, BODIES, LONGEST, OLD_EDITION, TASK_NUMBERS};
 use crate::status::{MOST_SLOTS, MOST_TASKS, SUCCESSFUL};
 
 /// How many calls follow a damaged file that was loaded and saved again, and how often in a hundred.
@@ -25,7 +25,7 @@ impl Round<'_, '_> {
         self.exchanged()?;
         self.put_together()?;
         self.resized()?;
-        self.from_damaged_tables()?;
+        self.of_damaged_tables()?;
         self.random_files()
     }
 
@@ -53,11 +53,13 @@ impl Round<'_, '_> {
         Ok(())
     }
 
-    /// The tables loaded from a file are saved as that file.
+    /// The tables loaded from a file are saved as that file; from one of edition 1 as a longer file, which says the same.
     fn save_again(&mut self, file: &[u8]) -> Compared {
-        let mut again = Lent::new(&vec![0; file.len()], 0);
+        let old = word(file, 0) == OLD_EDITION;
+        let mut again = Lent::new(&vec![0; if old { LONGEST } else { file.len() }], 0);
         self.comparison.save(saves::LOADED, &self.blank, &mut again)?;
-        match again.bytes() == file {
+        let said = file_of(self.blank.bytes(), OLD_EDITION).filter(|_| old);
+        match said.as_deref().unwrap_or(again.bytes()) == file {
             true => Ok(()),
             false => Err(format!("save, {}: not the file that was loaded", saves::LOADED)),
         }
@@ -120,7 +122,7 @@ impl Round<'_, '_> {
         let words = file.len() / 4;
         for one in 0..words {
             let any = self.rng.below(words);
-            for other in [one + 1, one + TASK_NUMBERS, one + SLOT_NUMBERS, any] {
+            for other in [one + 1, one + TASK_NUMBERS, one + slot_numbers(self.edition), any] {
                 if other >= words || word(&file, one) == word(&file, other) {
                     continue;
                 }
@@ -136,7 +138,7 @@ impl Round<'_, '_> {
 
     /// The bodies with other counts, misplaced, and with a length whose sums pass over 4294967295.
     fn put_together(&mut self) -> Compared {
-        let sheet = Sheet::of(&self.machine);
+        let sheet = Sheet::of(self.edition, &self.machine);
         for (name, recounted) in sheet.recounted() {
             self.load_damaged(loads::RECOUNTED, &recounted.file(), || name.clone())?;
         }
@@ -144,7 +146,8 @@ impl Round<'_, '_> {
             self.load_damaged(loads::MISPLACED, &misplaced.file(), || name.clone())?;
         }
         for index in 0..BODIES {
-            for back in [1, 4, 16, 28, self.rng.between(1, self.file.len() as u32)] {
+            let record = 4 * slot_numbers(self.edition) as u32;
+            for back in [1, 4, 16, record, self.rng.between(1, self.file.len() as u32)] {
                 let file = wrapped(&self.file, index, back);
                 let damage = || format!("the length of body {} is {back} below zero", index + 1);
                 self.load_damaged(loads::WRAPPED, &file, damage)?;
@@ -156,10 +159,10 @@ impl Round<'_, '_> {
     /// A body longer or shorter by some numbers, with a table of contents that says so.
     fn resized(&mut self) -> Compared {
         for _ in 0..40 {
-            let mut sheet = Sheet::of(&self.machine);
+            let mut sheet = Sheet::of(self.edition, &self.machine);
             let index = self.rng.below(BODIES);
             let body = sheet.body(index);
-            let count = self.rng.pick(&[1, 1, 2, TASK_NUMBERS, SLOT_NUMBERS]);
+            let count = self.rng.pick(&[1, 1, 2, TASK_NUMBERS, slot_numbers(self.edition)]);
             let at = self.rng.below(body.len() + 1);
             let longer = self.rng.chance(50) || body.len() < at + count;
             if longer {
@@ -175,13 +178,13 @@ impl Round<'_, '_> {
     }
 
     /// Files that are all right but for the tables in them.
-    fn from_damaged_tables(&mut self) -> Compared {
+    fn of_damaged_tables(&mut self) -> Compared {
         for _ in 0..150 {
             let mut bytes = self.tables.clone();
             let times = self.rng.pick(&[1, 1, 1, 2, 3]);
             let done: Vec<String> =
                 (0..times).map(|_| mutate(&mut self.rng, &self.machine, &mut bytes)).collect();
-            match file_of(&bytes) {
+            match file_of(&bytes, self.edition) {
                 Some(file) if file != self.file => {
                     self.load_damaged(loads::TABLES, &file, || done.join("; then "))?;
                 }
@@ -200,7 +203,7 @@ impl Round<'_, '_> {
             let byte = |at: usize| if words && at % 4 != 3 { 0 } else { self.rng.word() as u8 };
             let file: Vec<u8> = (0..length).map(byte).collect();
             self.load_damaged(loads::RANDOM, &file, || format!("{length} random bytes"))?;
-            let sheet = Sheet::new(random_bodies(&mut self.rng));
+            let sheet = Sheet::new(self.edition, random_bodies(self.edition, &mut self.rng));
             self.load_damaged(loads::BODIES, &sheet.file(), || format!("{sheet:?}"))?;
         }
         Ok(())
@@ -208,11 +211,12 @@ impl Round<'_, '_> {
 }
 
 /// Bodies of lengths that fit each other, of small numbers.
-fn random_bodies(rng: &mut Rng) -> [Vec<u32>; BODIES] {
+fn random_bodies(edition: u32, rng: &mut Rng) -> [Vec<u32>; BODIES] {
     let (tasks, slots) = (1 + rng.below(MOST_TASKS), 1 + rng.below(MOST_SLOTS));
     let most = rng.pick(&[1, 2, 33]);
     let mut numbers = |count: usize| (0..count).map(|_| rng.between(0, most)).collect::<Vec<u32>>();
-    let (task_numbers, slot_numbers) = (numbers(tasks * TASK_NUMBERS), numbers(slots * SLOT_NUMBERS));
+    let (task_numbers, slot_numbers) =
+        (numbers(tasks * TASK_NUMBERS), numbers(slots * slot_numbers(edition)));
     let mut queues = Vec::new();
     for _ in 0..slots {
         let queue = numbers(1);

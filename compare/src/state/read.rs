@@ -3,8 +3,8 @@
 use std::fmt;
 
 use crate::model::{split_attributes, Machine, Semaphore, Slot, State, Task};
-use crate::state::write::write;
-use crate::state::{BODIES, CONTENTS, EDITION, SLOT_NUMBERS, TASK_NUMBERS};
+use crate::state::write::{put_together, write};
+use crate::state::*;
 use crate::status::*;
 
 /// What is first found to be wrong with a file; the order of the tests is this project's own.
@@ -69,14 +69,46 @@ impl fmt::Display for Fault {
     }
 }
 
-/// The machine whose file this is, byte for byte.
+/// The machine whose file this is, byte for byte; one of edition 1 is read as the edition 2 file made of it.
 pub fn read(file: &[u8]) -> Result<Machine, Fault> {
-    let [tasks, slots, queues, ready] = bodies(file)?;
-    let tasks: Vec<Task> = records(&tasks, MOST_TASKS, Fault::Tasks)?.map(task).collect();
-    let slots = records::<SLOT_NUMBERS>(&slots, MOST_SLOTS, Fault::Slots)?;
-    let mut queues = split_queues(&queues, slots.len())?.into_iter();
+    match bodies(file)? {
+        (EDITION, bodies) => machine_of(&bodies, file),
+        (_, bodies) => {
+            let bodies = renewed(bodies)?;
+            machine_of(&bodies, &put_together(EDITION, &bodies))
+        }
+    }
+}
+
+/// Whether a file of edition 2 would be read if its maxima were the greatest of their class.
+pub fn only_maxima_are_wrong(file: &[u8]) -> bool {
+    let mended = bodies(file).and_then(|(_, [tasks, slots, queues, ready])| {
+        let kept = slots.chunks(SLOT_NUMBERS).flat_map(|slot| &slot[..slot.len().min(OLD_SLOT_NUMBERS)]);
+        renewed([tasks, kept.copied().collect(), queues, ready])
+    });
+    read(file).is_err() && mended.is_ok_and(|bodies| read(&put_together(EDITION, &bodies)).is_ok())
+}
+
+/// The bodies of an edition 1 file with the maxima that their slots are given.
+fn renewed(bodies: [Vec<u32>; BODIES]) -> Result<[Vec<u32>; BODIES], Fault> {
+    let [tasks, slots, queues, ready] = bodies;
+    let renewed = records::<OLD_SLOT_NUMBERS>(&slots, MOST_SLOTS, Fault::Slots)?.flat_map(|slot| {
+        let &[generation, live, name, attributes, count, owner, nest] = slot;
+        let maximum = if live == 0 { 0 } else { greatest_maximum(attributes) };
+        [generation, live, name, attributes, count, owner, nest, maximum]
+    });
+    let slots = renewed.collect();
+    Ok([tasks, slots, queues, ready])
+}
+
+/// The machine of these bodies, whose edition 2 file has to be this one.
+fn machine_of(bodies: &[Vec<u32>; BODIES], file: &[u8]) -> Result<Machine, Fault> {
+    let [tasks, slots, queues, ready] = bodies;
+    let tasks: Vec<Task> = records(tasks, MOST_TASKS, Fault::Tasks)?.map(task).collect();
+    let slots = records::<SLOT_NUMBERS>(slots, MOST_SLOTS, Fault::Slots)?;
+    let mut queues = split_queues(queues, slots.len())?.into_iter();
     let slots = slots.map(|numbers| slot(numbers, queues.next().unwrap_or_default()));
-    let machine = Machine { tasks, slots: slots.collect::<Result<_, _>>()?, ready };
+    let machine = Machine { tasks, slots: slots.collect::<Result<_, _>>()?, ready: ready.clone() };
     if !machine.agrees() {
         return Err(Fault::Agreement);
     }
@@ -91,11 +123,12 @@ fn numbers(bytes: &[u8]) -> Vec<u32> {
     bytes.as_chunks::<4>().0.iter().map(|&four| u32::from_be_bytes(four)).collect()
 }
 
-/// The numbers of the bodies, which the table of contents has to place one behind the other.
-fn bodies(file: &[u8]) -> Result<[Vec<u32>; BODIES], Fault> {
+/// The edition and the numbers of the bodies, which the table of contents has to place one behind the other.
+fn bodies(file: &[u8]) -> Result<(u32, [Vec<u32>; BODIES]), Fault> {
     let (contents, mut rest) = file.split_at_checked(CONTENTS).ok_or(Fault::Contents)?;
     let contents = numbers(contents);
-    if contents[0] != EDITION {
+    let edition = contents[0];
+    if ![EDITION, OLD_EDITION].contains(&edition) {
         return Err(Fault::Edition);
     }
     if contents[1] != BODIES as u32 {
@@ -116,7 +149,7 @@ fn bodies(file: &[u8]) -> Result<[Vec<u32>; BODIES], Fault> {
         (bodies[index], rest) = (numbers(body), behind);
     }
     if rest.is_empty() {
-        Ok(bodies)
+        Ok((edition, bodies))
     } else {
         Err(Fault::Behind)
     }
@@ -159,12 +192,12 @@ fn split_queues(body: &[u32], slots: usize) -> Result<Vec<Vec<u32>>, Fault> {
 }
 
 fn slot(numbers: &[u32; SLOT_NUMBERS], queue: Vec<u32>) -> Result<Slot, Fault> {
-    let &[generation, live, name, attributes, count, owner, nest] = numbers;
+    let &[generation, live, name, attributes, count, owner, nest, maximum] = numbers;
     let live = match live {
         0 => None,
         1 => {
             let (class, order) = split_attributes(attributes).ok_or(Fault::Attributes)?;
-            Some(Semaphore { name, class, order, count, owner, nest, queue })
+            Some(Semaphore { name, class, order, count, owner, nest, maximum, queue })
         }
         _ => return Err(Fault::Live),
     };

@@ -1,4 +1,4 @@
-//! One round: tables by random calls, their file saved and loaded, and every refusal of both.
+//! One round: tables by random calls, their file saved and loaded, in edition 1 loaded alone, and every refusal.
 
 use crate::fuzz::damage::bases;
 use crate::fuzz::generate::Plan;
@@ -10,22 +10,23 @@ use crate::layout::{self, LENGTH};
 use crate::model::Machine;
 use crate::state::comparison::{Compared, Comparison};
 use crate::state::seen::{loads, saves};
-use crate::state::write::write;
-use crate::state::{CONTENTS, LONGEST};
-use crate::status::SUCCESSFUL;
+use crate::state::write::{write, write_in};
+use crate::state::{CONTENTS, EDITION, LONGEST, OLD_EDITION};
+use crate::status::{greatest_maximum, SUCCESSFUL};
 
 /// In as many seeds each of the tables that are not drawn at random comes once.
 const BASES_EVERY: u64 = 40;
 /// The place of obtain in `KINDS`.
 const OBTAIN: usize = 4;
 
-/// Started tables with their file, and an unstarted machine to load on.
+/// Started tables with their file of an edition, and an unstarted machine to load on.
 pub struct Round<'a, 'b> {
     pub comparison: &'a mut Comparison<'b>,
     pub rng: Rng,
     pub plan: Plan,
     pub machine: Machine,
     pub tables: Vec<u8>,
+    pub edition: u32,
     pub file: Vec<u8>,
     pub blank: Lent,
 }
@@ -41,9 +42,9 @@ pub fn round(comparison: &mut Comparison, seed: u64) -> Compared {
     comparison.seen.drew(&machine);
     let (tables, file) = (layout::write(&machine), write(&machine));
     let blank = Lent::new(&[0; LENGTH], rng.below(4));
-    let mut round = Round { comparison, rng, plan, machine, tables, file, blank };
-    let compared = round.saves().and_then(|()| round.loads()).and_then(|()| round.damaged_files());
-    compared.map_err(|said| format!("difference in round {seed}: {said}"))
+    let mut round = Round { comparison, rng, plan, machine, tables, edition: EDITION, file, blank };
+    let compared = round.saves().and_then(|()| round.each_edition());
+    compared.map_err(|said| format!("difference in round {seed}, edition {}: {said}", round.edition))
 }
 
 fn started_bases() -> Vec<Machine> {
@@ -74,6 +75,27 @@ fn draw_machine(rng: &mut Rng, plan: &Plan) -> Machine {
 }
 
 impl Round<'_, '_> {
+    fn each_edition(&mut self) -> Compared {
+        for edition in [EDITION, OLD_EDITION] {
+            self.turn_to(edition);
+            self.loads()?;
+            self.damaged_files()?;
+        }
+        Ok(())
+    }
+
+    /// The round's file in this edition, and the tables that it gives.
+    fn turn_to(&mut self, edition: u32) {
+        (self.edition, self.comparison.edition) = (edition, edition);
+        self.file = write_in(edition, &self.machine);
+        if edition == OLD_EDITION {
+            let live = self.machine.slots.iter_mut().filter_map(|slot| slot.live.as_mut());
+            live.for_each(|live| live.maximum = greatest_maximum(live.attributes()));
+            self.tables = layout::write(&self.machine);
+            self.comparison.seen.drew_old(&self.machine);
+        }
+    }
+
     fn saves(&mut self) -> Compared {
         let length = self.file.len();
         let short = self.rng.below(length);

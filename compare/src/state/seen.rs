@@ -3,9 +3,9 @@
 use std::collections::BTreeMap;
 
 use crate::call::Answer;
-use crate::model::Machine;
-use crate::state::read::Fault;
-use crate::state::{write, LONGEST};
+use crate::model::{Class, Machine};
+use crate::state::read::{only_maxima_are_wrong, Fault};
+use crate::state::{write, EDITION, LONGEST, OLD_EDITION};
 use crate::status::{LAST_GENERATION, SUCCESSFUL};
 
 /// What is saved.
@@ -41,7 +41,7 @@ pub mod loads {
     pub const BODIES: &str = "damaged: random bodies";
 }
 
-/// The statuses that each has to get. Damage may also leave the tables in agreement or the file valid.
+/// The statuses that each has to get, loads in both editions. Damage may also leave the tables in agreement or the file valid.
 const SAVES: [(&str, &[u32]); 7] = [
     (saves::STARTED, &[0, 8]),
     (saves::UNSTARTED, &[14]),
@@ -73,7 +73,7 @@ const LOADS: [(&str, &[u32]); 18] = [
 ];
 
 /// Tables that have to be among those saved, and what has to follow a load.
-const HAPPENINGS: [&str; 12] = [
+const HAPPENINGS: [&str; 18] = [
     "saved: the longest file",
     "saved: no task ready",
     "saved: no task waiting",
@@ -86,14 +86,23 @@ const HAPPENINGS: [&str; 12] = [
     "calls after a load of a damaged file",
     "ident after a load matched behind slot 1",
     "ident after a load matched nothing",
+    "loaded: edition 1 with a live counting semaphore",
+    "loaded: edition 1 with a live binary semaphore",
+    "loaded: edition 1 with a live simple binary semaphore",
+    "loaded: edition 1 with a free slot",
+    "saved: a maximum that is neither 1 nor 4294967295",
+    "refused: edition 2 for its maxima alone",
 ];
+
+type Counts<Key> = BTreeMap<Key, u64>;
 
 #[derive(Default)]
 pub struct Seen {
-    saves: BTreeMap<(&'static str, u32), u64>,
-    loads: BTreeMap<(&'static str, u32), u64>,
-    faults: BTreeMap<Fault, u64>,
-    happenings: BTreeMap<&'static str, u64>,
+    saves: Counts<(&'static str, u32)>,
+    /// Each with the edition of the file before it was damaged.
+    loads: Counts<(&'static str, u32, u32)>,
+    faults: Counts<(Fault, u32)>,
+    happenings: Counts<&'static str>,
 }
 
 impl Seen {
@@ -102,11 +111,18 @@ impl Seen {
     }
 
     /// Counts a load, and the fault of a file that was refused.
-    pub fn loaded(&mut self, part: &'static str, status: u32, fault: Option<Fault>) {
-        *self.loads.entry((part, status)).or_default() += 1;
+    pub fn loaded(&mut self, edition: u32, part: &'static str, status: u32, fault: Option<Fault>) {
+        *self.loads.entry((part, status, edition)).or_default() += 1;
         if let Some(fault) = fault {
-            *self.faults.entry(fault).or_default() += 1;
+            *self.faults.entry((fault, edition)).or_default() += 1;
         }
+    }
+
+    /// Counts an edition 2 file that is refused for a maximum and for nothing else.
+    pub fn refused_for_maxima(&mut self, edition: u32, fault: Option<Fault>, file: &[u8]) {
+        let of_tables = matches!(fault, Some(Fault::Agreement | Fault::Rewritten));
+        let alone = edition == EDITION && of_tables && only_maxima_are_wrong(file);
+        self.happened(HAPPENINGS[17], alone);
     }
 
     fn happened(&mut self, name: &'static str, it_did: bool) {
@@ -147,19 +163,37 @@ impl Seen {
         self.happened(HAPPENINGS[5], queues_from(0) == 0);
         self.happened(HAPPENINGS[6], last(false));
         self.happened(HAPPENINGS[7], last(true));
+        let mut live = machine.slots.iter().filter_map(|slot| slot.live.as_ref());
+        self.happened(HAPPENINGS[16], live.any(|live| (2..u32::MAX).contains(&live.maximum)));
+    }
+
+    /// Counts what a round's tables are like that are loaded from edition 1.
+    pub fn drew_old(&mut self, machine: &Machine) {
+        let of = |class: Class| {
+            let mut live = machine.slots.iter().filter_map(|slot| slot.live.as_ref());
+            live.any(|live| live.class == class)
+        };
+        self.happened(HAPPENINGS[12], of(Class::Counting));
+        self.happened(HAPPENINGS[13], of(Class::Binary));
+        self.happened(HAPPENINGS[14], of(Class::SimpleBinary));
+        self.happened(HAPPENINGS[15], machine.slots.iter().any(|slot| slot.live.is_none()));
     }
 
     /// What has to occur and did not.
     pub fn gaps(&self) -> Vec<String> {
-        let mut gaps = Vec::new();
-        for (what, wanted, seen) in [("save", &SAVES[..], &self.saves), ("load", &LOADS, &self.loads)] {
-            let each =
-                wanted.iter().flat_map(|(part, statuses)| statuses.iter().map(move |it| (*part, *it)));
-            let missing = each.filter(|key| !seen.contains_key(key));
-            gaps.extend(missing.map(|(part, status)| format!("{what} never answered {status}: {part}")));
+        let missing = each(&SAVES).filter(|key| !self.saves.contains_key(key));
+        let mut gaps: Vec<String> =
+            missing.map(|(part, status)| format!("save never answered {status}: {part}")).collect();
+        for edition in [EDITION, OLD_EDITION] {
+            let unseen = |(part, status): &_| !self.loads.contains_key(&(*part, *status, edition));
+            let missing = each(&LOADS).filter(unseen);
+            gaps.extend(missing.map(|(part, status)| {
+                format!("load of edition {edition} never answered {status}: {part}")
+            }));
+            let unseen =
+                Fault::ALL.iter().filter(|fault| !self.faults.contains_key(&(**fault, edition)));
+            gaps.extend(unseen.map(|fault| format!("no file of edition {edition} refused for {fault}")));
         }
-        let unseen = Fault::ALL.iter().filter(|fault| !self.faults.contains_key(fault));
-        gaps.extend(unseen.map(|fault| format!("no file refused for {fault}")));
         let missing = HAPPENINGS.iter().filter(|name| !self.happenings.contains_key(*name));
         gaps.extend(missing.map(|name| format!("never: {name}")));
         gaps
@@ -167,35 +201,40 @@ impl Seen {
 
     pub fn table(&self) -> String {
         let mut table = String::new();
-        for (what, seen) in [("save", &self.saves), ("load", &self.loads)] {
-            for ((part, status), count) in seen {
-                table += &format!("  {count:>10} {what} {status:<2} {part}\n");
-            }
+        for ((part, status), count) in &self.saves {
+            table += &format!("  {count:>10} save {status:<2} {part}\n");
         }
-        for (fault, count) in &self.faults {
-            table += &format!("  {count:>10} refused for {fault}\n");
+        for ((part, status, edition), count) in &self.loads {
+            table += &format!("  {count:>10} load {status:<2} edition {edition}, {part}\n");
+        }
+        for ((fault, edition), count) in &self.faults {
+            table += &format!("  {count:>10} edition {edition} refused for {fault}\n");
         }
         for (name, count) in &self.happenings {
             table += &format!("  {count:>10} {name}\n");
         }
-        table + &totals("saves", &self.saves, |_| true) + &self.load_totals()
+        let saves = self.saves.iter().map(|((_, status), count)| (*status, *count));
+        table + &totals("saves", saves) + &self.load_totals()
     }
 
     fn load_totals(&self) -> String {
-        let damaged = |part: &str| part.starts_with("damaged: ");
-        totals("loads", &self.loads, |_| true) + &totals("loads of damaged files", &self.loads, damaged)
+        let all = self.loads.iter().map(|((_, status, _), count)| (*status, *count));
+        let damaged = self.loads.iter().filter(|((part, ..), _)| part.starts_with("damaged: "));
+        let damaged = damaged.map(|((_, status, _), count)| (*status, *count));
+        totals("loads", all) + &totals("loads of damaged files", damaged)
     }
 }
 
+/// Each part with each status that it has to get.
+fn each(wanted: &'static [(&'static str, &'static [u32])]) -> impl Iterator<Item = (&'static str, u32)> {
+    wanted.iter().flat_map(|&(part, statuses)| statuses.iter().map(move |&status| (part, status)))
+}
+
 /// One line with the count of each status.
-fn totals(
-    what: &str,
-    seen: &BTreeMap<(&'static str, u32), u64>,
-    counts: impl Fn(&str) -> bool,
-) -> String {
-    let mut sums: BTreeMap<u32, u64> = BTreeMap::new();
-    for ((_, status), count) in seen.iter().filter(|((part, _), _)| counts(part)) {
-        *sums.entry(*status).or_default() += count;
+fn totals(what: &str, seen: impl Iterator<Item = (u32, u64)>) -> String {
+    let mut sums: Counts<u32> = BTreeMap::new();
+    for (status, count) in seen {
+        *sums.entry(status).or_default() += count;
     }
     let each: Vec<String> =
         sums.iter().map(|(status, count)| format!("{count} with {status}")).collect();

@@ -2,8 +2,8 @@
 
 use crate::layout::set_word;
 use crate::model::Machine;
-use crate::state::write::bodies;
-use crate::state::{BODIES, EDITION, SLOT_NUMBERS, TASK_NUMBERS};
+use crate::state::write::bodies_in;
+use crate::state::{slot_numbers, BODIES, EDITION, OLD_EDITION, TASK_NUMBERS};
 use crate::status::{MOST_SLOTS, MOST_TASKS};
 
 /// The bodies with their kinds, in the order of the file, and the two first numbers.
@@ -17,12 +17,12 @@ pub struct Sheet {
 }
 
 impl Sheet {
-    pub fn new(bodies: [Vec<u32>; BODIES]) -> Self {
-        Sheet { edition: EDITION, count: BODIES as u32, bodies: (1..).zip(bodies).collect(), gap: None }
+    pub fn new(edition: u32, bodies: [Vec<u32>; BODIES]) -> Self {
+        Sheet { edition, count: BODIES as u32, bodies: (1..).zip(bodies).collect(), gap: None }
     }
 
-    pub fn of(machine: &Machine) -> Self {
-        Sheet::new(bodies(machine))
+    pub fn of(edition: u32, machine: &Machine) -> Self {
+        Sheet::new(edition, bodies_in(edition, machine))
     }
 
     /// The numbers of a body, by its place from 0.
@@ -59,7 +59,8 @@ impl Sheet {
 
     /// The same with as many slots: new ones are free, and the last ones go with their queues.
     pub fn with_slots(mut self, count: usize) -> Self {
-        self.body(1).resize(count * SLOT_NUMBERS, 0);
+        let numbers = slot_numbers(self.edition);
+        self.body(1).resize(count * numbers, 0);
         let mut at = 0;
         for _ in 0..count {
             match self.body(2).get(at) {
@@ -77,7 +78,7 @@ impl Sheet {
     /// Counts of tasks or slots around those of the machine, around the limits, and none.
     pub fn recounted(&self) -> Vec<(String, Sheet)> {
         let tasks = self.bodies[0].1.len() / TASK_NUMBERS;
-        let slots = self.bodies[1].1.len() / SLOT_NUMBERS;
+        let slots = self.bodies[1].1.len() / slot_numbers(self.edition);
         let tasks_to = [0, tasks - 1, tasks + 1, MOST_TASKS, MOST_TASKS + 1, MOST_TASKS + 2, 64];
         let slots_to = [0, slots - 1, slots + 1, MOST_SLOTS, MOST_SLOTS + 1, MOST_SLOTS + 2, 128];
         let mut made = Vec::new();
@@ -99,7 +100,8 @@ impl Sheet {
             made.push((name.to_string(), sheet));
         };
         add("edition 0", &|sheet| sheet.edition = 0);
-        add("edition 2", &|sheet| sheet.edition = 2);
+        add("edition 3", &|sheet| sheet.edition = 3);
+        add("the other edition", &|sheet| sheet.edition = EDITION + OLD_EDITION - sheet.edition);
         add("3 bodies said", &|sheet| sheet.count = 3);
         add("5 bodies said", &|sheet| sheet.count = 5);
         add("3 bodies", &|sheet| {

@@ -78,6 +78,7 @@ record NarrowSlot (s : Slot) : Type 0 where
   name : s .name ≤ maxNumber
   count : s .count ≤ maxNumber
   nest : s .nest ≤ maxNumber
+  maximum : s .maximum ≤ maxNumber
 
 module _ (bs : List ℕ) (b : Bytes bs) where
   narrow-task : (i : ℕ) → NarrowTask (getD (modelOf bs .tasks) i noTask)
@@ -89,13 +90,14 @@ module _ (bs : List ℕ) (b : Bytes bs) where
 
   narrow-slot : (i : ℕ) → NarrowSlot (getD (modelOf bs .slots) i (freeSlot 0))
   narrow-slot =
-      everywhere NarrowSlot (modelOf bs .slots) (freeSlot 0) (record { name = omega arith; count = omega arith; nest = omega arith })
+      everywhere NarrowSlot (modelOf bs .slots) (freeSlot 0) (record { name = omega arith; count = omega arith; nest = omega arith; maximum = omega arith })
       (λ i h.
       rw (slot-read bs i (omega (arith, length-slots bs)))
       (record {
         name = omega (arith, record-below bs b i 2);
         count = omega (arith, record-below bs b i 4);
         nest = omega (arith, record-below bs b i 6);
+        maximum = omega (arith, record-below bs b i 7);
       }))
 
   narrow : Narrow (modelOf bs)
@@ -106,6 +108,7 @@ module _ (bs : List ℕ) (b : Bytes bs) where
         name = λ n. narrow-slot (pred n) .name;
         count = λ n. narrow-slot (pred n) .count;
         nest = λ n. narrow-slot (pred n) .nest;
+        maximum = λ n. narrow-slot (pred n) .maximum;
       }
 
   pub bytes-tested : bytesTests bs ≡ agreesBytes bs

@@ -46,7 +46,9 @@ module _ (s : Head) (queue : List ℕ) (long : length queue ≡ s .waiters) wher
   pub zero-with : when (leb 1 (s .waiters)) (eqb (s .count) 0) ≡ isZeroWhereQueued (slotWith s queue)
   zero-with = ap (λ (n : ℕ). when (leb 1 n) (eqb (s .count) 0)) (sym long)
 
-  pub clear-with : (eqb (s .name) 0 and eqb (s .attributes) 0 and eqb (s .count) 0 and eqb (s .owner) 0 and eqb (s .nest) 0 and eqb (s .waiters) 0)
+  pub clear-with : (eqb (s .name) 0 and eqb (s .attributes) 0 and eqb (s .count) 0 and eqb (s .owner) 0 and eqb (s .nest) 0
+      and eqb (s .maximum) 0 and eqb (s .waiters) 0)
       ≡ isClear (slotWith s queue)
   clear-with =
-      ap (λ (n : ℕ). eqb (s .name) 0 and eqb (s .attributes) 0 and eqb (s .count) 0 and eqb (s .owner) 0 and eqb (s .nest) 0 and eqb n 0) (sym long)
+      ap (λ (n : ℕ). eqb (s .name) 0 and eqb (s .attributes) 0 and eqb (s .count) 0 and eqb (s .owner) 0 and eqb (s .nest) 0
+      and eqb (s .maximum) 0 and eqb n 0) (sym long)

@@ -1,5 +1,6 @@
 pub mod Marks
 pub mod Entries
+pub mod Classes
 pub mod Passes
 pub mod Cases
 pub mod Queues

@@ -25,6 +25,7 @@ use Rattle.rules.proofs.Invariants.ToTests.{names-of}
 use Rattle.agreement.specs.Tests.{seenAt, urgencyBefore, seenBelow, entryAgrees, queueAgrees, classAgrees, headAgrees, slotAgrees, taskAgrees, slotsAgree}
 use Rattle.agreement.specs.Tests.{placeAgrees, sequenceAgrees, seenAll, tasksAgree}
 use Rattle.agreement.proofs.Marks.{queueOf, entryOf, Place, length-below, seen-kept, seen-made, seen-from, below-made, below-from}
+use Rattle.agreement.proofs.Classes.{class-owned, class-other, class-maximum, class-agrees}
 use Rattle.agreement.proofs.Entries.{EntryFits, entry-fits, fits-entry, PlaceFits, place-fits, fits-place}
 use Rattle.agreement.proofs.Entries.{occurs-apart, occurs-found, fresh-once, once-fresh}
 
@@ -35,6 +36,7 @@ pub record Narrow (t : Tables) : Type 0 where
   pub name : (n : ℕ) → slotOf t n .name ≤ maxNumber
   pub count : (n : ℕ) → slotOf t n .count ≤ maxNumber
   pub nest : (n : ℕ) → slotOf t n .nest ≤ maxNumber
+  pub maximum : (n : ℕ) → slotOf t n .maximum ≤ maxNumber
 
 -- a choice between tests that holds
 chosen : (a b c : Bool) → choose a b c ≡ true → a ≡ true → b ≡ true
@@ -96,9 +98,9 @@ module _ (t : Tables) (sizes : Sizes t) (seen : List Bool) (long : length seen �
   once l =
       fresh-once seen (s .queue) (λ k h. has-mark t sizes seen long (getD (s .queue) k 0) (and-both _ _ (entry l k h .waiter) .0)) (λ k h. entry l k h .fresh)
 
-  live-agrees : isLive s ≡ true → LiveAgrees t n s
+  live-agrees : s .maximum ≤ maxNumber → isLive s ≡ true → LiveAgrees t n s
   unfolding headAgrees
-  live-agrees l =
+  live-agrees narrow l =
       let named = and-both _ _ (when-live l .0) in
       let attributed = and-both _ _ (named .1) in
       let class = and-both _ _ (attributed .1) in
@@ -109,16 +111,17 @@ module _ (t : Tables) (sizes : Sizes t) (seen : List Bool) (long : length seen �
         waiting = all-of _ _ (λ k h. entry l k h .waiter);
         ordered = λ b. all-of _ _ (λ k h. le-leb _ _ (entry l (suc k) (omega arith) .ordered b));
         atZero = class .1;
-        owned = λ b. owned-with (length (t .tasks)) (requeued s []) (s .queue) apart (chosen _ _ _ (class .0) b);
-        unowned = λ b. other _ _ _ (class .0) b;
+        owned = λ b. owned-with (length (t .tasks)) (requeued s []) (s .queue) apart (class-owned (length (t .tasks)) s (class .0) b);
+        unowned = class-other (length (t .tasks)) s (class .0);
+        maximum = class-maximum (length (t .tasks)) s (class .0) narrow;
       }
 
-  pub slot-agrees : s .name ≤ maxNumber → s .count ≤ maxNumber → s .nest ≤ maxNumber → SlotAgrees t n s
+  pub slot-agrees : s .name ≤ maxNumber → s .count ≤ maxNumber → s .nest ≤ maxNumber → s .maximum ≤ maxNumber → SlotAgrees t n s
   unfolding slotAgrees
-  slot-agrees name count nest =
+  slot-agrees name count nest maximum =
       record {
         numbers = both-and (and-both _ _ e .0) (both-and (le-leb _ _ at-most-one) (both-and (le-leb _ _ name) (both-and (le-leb _ _ count) (le-leb _ _ nest))));
-        whenLive = live-agrees;
+        whenLive = live-agrees maximum;
         whenFree = λ l. and-both _ _ (when-free l) .1;
       }
 
@@ -190,7 +193,7 @@ module _ (t : Tables) (fit : sizesFit t ≡ true) (slots : slotsAgree t ≡ true
         task = task-agrees narrow;
         slot = λ j h.
             slot-agrees t (sizes-within t fit) (seenBelow t j) (length-below t j) (suc j) (nthSlot t j) (slot-test j h)
-            (narrow .name (suc j)) (narrow .count (suc j)) (narrow .nest (suc j));
+            (narrow .name (suc j)) (narrow .count (suc j)) (narrow .nest (suc j)) (narrow .maximum (suc j));
         place = λ k h. place k h .ready;
       }
 
@@ -275,7 +278,10 @@ module _ (t : Tables) (a : Agrees t) where
           → (headAgrees (length (t .tasks)) (nthSlot t j) and queueAgrees t (seenBelow t j) (idOf (suc j) (nthSlot t j)) (nthSlot t j)) ≡ true
       live l =
           let s = items .slot j h .whenLive l in
-          let class = either _ _ _ (λ y. owned-with (length (t .tasks)) (nthSlot t j) [] (occurs-none _) (s .owned y)) (s .unowned) in
+          let class =
+          class-agrees (length (t .tasks)) (nthSlot t j)
+          (λ y. owned-with (length (t .tasks)) (nthSlot t j) [] (occurs-none _) (s .owned y)) (s .unowned) (s .maximum)
+          in
           both-and (both-and (s .named) (both-and (s .attributed) (both-and class (s .atZero)))) (all-of _ _ (entry-agrees j l))
 
       free : leb (nthSlot t j .live) 1 ≡ true → isLive (nthSlot t j) ≡ false → (eqb (nthSlot t j .live) 0 and isClear (nthSlot t j)) ≡ true

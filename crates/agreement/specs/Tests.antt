@@ -10,10 +10,10 @@ use lib.ListN.{length, getD, set, replicate}
 use Rattle.laws.specs.Choose.{choose, _and_, isnt, when}
 use Rattle.laws.specs.All.{all}
 use Rattle.rules.specs.declared.Task.{Task}
-use Rattle.rules.specs.Numbers.{maxPriority, maxGeneration, within, allowed, byPriority, isBinary}
+use Rattle.rules.specs.Numbers.{maxPriority, maxGeneration, within, allowed, byPriority, isBinary, isSimple}
 use Rattle.rules.specs.Machine.{Slot, Tables, taskOf, slotOf, waits, isLive, idOf, urgency}
 use Rattle.rules.specs.Semaphore.{requeued}
-use Rattle.rules.specs.Agreement.{isEnding, isAtRest, isWaiter, isReadyTask, isNamedRight, isZeroWhereQueued, isBinaryRight, isOtherRight, isClear}
+use Rattle.rules.specs.Agreement.{isEnding, isAtRest, isWaiter, isReadyTask, isNamedRight, isZeroWhereQueued, isBinaryRight, isClear}
 
 -- what a pass answers and leaves: the marks are told where the test holds
 pub record Marked (agrees : Bool) (after : List Bool) (r : Bool) (seen : List Bool) : Type 0 where
@@ -54,9 +54,15 @@ QueueTested t seen id s r after = Marked (queueAgrees t seen id s) (seenAt seen 
 
 -- ---- a slot
 
--- count, owner and nest by the class; that its owner is not in its queue is tested with the queue
+-- of a counting or simple binary semaphore, with its maximum
+abbrev pub otherAgrees : Slot → Bool
+otherAgrees s =
+    eqb (s .owner) 0 and eqb (s .nest) 0
+    and choose (isSimple (s .attributes)) (eqb (s .maximum) 1 and leb (s .count) 1) (leb 1 (s .maximum) and leb (s .count) (s .maximum))
+
+-- count, owner, nest and maximum by the class, which is looked at once; that its owner is not in its queue is tested with the queue
 abbrev pub classAgrees : ℕ → Slot → Bool
-classAgrees N s = choose (isBinary (s .attributes)) (isBinaryRight N (requeued s [])) (isOtherRight s)
+classAgrees N s = choose (isBinary (s .attributes)) (eqb (s .maximum) 1 and isBinaryRight N (requeued s [])) (otherAgrees s)
 
 -- the numbers of a live semaphore
 unfoldable pub headAgrees : ℕ → Slot → Bool

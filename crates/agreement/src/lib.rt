@@ -9,11 +9,11 @@ ghost use Rattle.laws.specs.Choose.{_and_};
 ghost use Rattle.words.specs.Words.{wordAt};
 ghost use Rattle.rules.specs.Numbers.{byPriority};
 ghost use Rattle.rules.specs.Machine.{slotOf};
-ghost use Rattle.rules.specs.Agreement.{countsFit, isEnding, isAtRest, isZeroWhereQueued, isBinaryRight, isOtherRight, isClear};
+ghost use Rattle.rules.specs.Agreement.{countsFit, isEnding, isAtRest, isZeroWhereQueued, isBinaryRight, isClear};
 ghost use Rattle.tables.specs.Layout.{headOf, slotWith, recordAt, modelOf};
 ghost use Rattle.tables.specs.Sizes.{Bounded};
-ghost use Rattle.agreement.specs.Tests.{isApart, isInTurn, QueueTested, classAgrees, headAgrees, SlotTested, taskAgrees, seenBelow, SlotsTested};
-ghost use Rattle.agreement.specs.Tests.{SequenceTested, seenAll, tasksAgree};
+ghost use Rattle.agreement.specs.Tests.{isApart, isInTurn, QueueTested, otherAgrees, classAgrees, headAgrees, SlotTested, taskAgrees, seenBelow};
+ghost use Rattle.agreement.specs.Tests.{SlotsTested, SequenceTested, seenAll, tasksAgree};
 ghost use Rattle.agreement.specs.Bytes.{agreesBytes};
 
 // ---- a slot
@@ -40,9 +40,9 @@ fn is_owned_right(tasks: u32, s: Head) -> bool
     0 < s.nest
 }
 
-// The same of a semaphore of another class.
+// The same of a semaphore of another class, with its maximum.
 fn is_unowned(s: Head) -> bool
-    ensures { λ r. ⌜ ((queue : List ℕ) → r ≡ isOtherRight (slotWith s queue)) ⌝ }
+    ensures { λ r. ⌜ ((queue : List ℕ) → r ≡ otherAgrees (slotWith s queue)) ⌝ }
 {
     if s.owner != 0 {
         return false;
@@ -51,15 +51,24 @@ fn is_unowned(s: Head) -> bool
         return false;
     }
     if rules::is_simple(s.attributes) {
+        if s.maximum != 1 {
+            return false;
+        }
         return s.count <= 1;
     }
-    true
+    if s.maximum == 0 {
+        return false;
+    }
+    s.count <= s.maximum
 }
 
 fn is_class_right(tasks: u32, s: Head) -> bool
     ensures { λ r. ⌜ ((queue : List ℕ) → r ≡ classAgrees tasks (slotWith s queue)) ⌝ }
 {
     if rules::is_binary(s.attributes) {
+        if s.maximum != 1 {
+            return false;
+        }
         return is_owned_right(tasks, s);
     }
     is_unowned(s)
@@ -111,6 +120,9 @@ fn is_clear(s: Head) -> bool
         return false;
     }
     if s.nest != 0 {
+        return false;
+    }
+    if s.maximum != 0 {
         return false;
     }
     s.waiters == 0

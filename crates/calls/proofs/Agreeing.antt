@@ -19,7 +19,7 @@ use Rattle.rules.specs.Machine.{Slot, Tables, noTask, isLive}
 use Rattle.rules.specs.Agreement.{Agrees, isEnding}
 use Rattle.rules.specs.Calls.{Outcome, perform, step}
 use Rattle.rules.specs.Fits.{callFits}
-use Rattle.rules.proofs.Invariants.Facts.{Facts, TaskFits, SlotFits, Unheld, Held, nthTask, nthSlot}
+use Rattle.rules.proofs.Invariants.Facts.{Facts, TaskFits, SlotFits, Unheld, Held, nthTask, nthSlot, maximum-within}
 use Rattle.rules.proofs.Invariants.FromTests.{agrees-facts}
 use Rattle.rules.proofs.Invariants.Agreeing.{agrees-true, sizes-within}
 use Rattle.rules.proofs.Invariants.Room as room
@@ -112,7 +112,8 @@ module _ (t : Tables) (a : Agrees t) where
   slot-words j =
       let f = facts .slots j in
       slot-row-words (nthSlot t j) (omega (arith, f .generation)) (omega (arith, f .live)) (omega (arith, f .name)) (omega (arith, class-few j))
-      (omega (arith, f .count)) (omega (arith, owner-few j)) (omega (arith, f .nest)) (queue-few j) (queue-words j)
+      (omega (arith, f .count)) (omega (arith, owner-few j)) (omega (arith, f .nest))
+      (omega (arith, maximum-within _ _ (nthSlot t j) f)) (queue-few j) (queue-words j)
 
   -- the sequence of ready tasks is within its places, and its entries are tasks
   pub ready-few : length (t .ready) ≤ 32

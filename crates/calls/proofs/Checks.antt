@@ -4,14 +4,14 @@ use mathlib.Core.Bool.{Bool, true, false, not}
 use mathlib.Core.List.{List}
 use Prim.Native.Nat.{ℕ, _≤_, _<_}
 use native.Mathlib.Omega.{arith}
-use lib.Dec.{leb, eqb}
+use lib.Dec.{eqb}
 use lib.ListN.{length, getD}
 use borrow.Author.Tests.{le-leb, lt-leb}
 use Rattle.laws.specs.Choose.{choose, _and_, _or_, isnt}
 use Rattle.laws.proofs.Choose.{if-yes, if-no, choose-same, both-and}
 use Rattle.laws.specs.All.{all}
 use Rattle.words.specs.Words.{wordAt}
-use Rattle.rules.specs.Numbers.{within, isBinary, isSimple}
+use Rattle.rules.specs.Numbers.{within, isBinary}
 use Rattle.rules.specs.Calls.{startRefusal}
 use Rattle.semaphore.specs.declared.Semaphore.{Semaphore}
 use Rattle.tables.specs.Layout.{modelOf}
@@ -59,22 +59,6 @@ module _ (bs : List ℕ) (slots : ℕ) (priorities : List ℕ) (n : ℕ) (counte
       → (y : ℕ) → y ≡ choose (all (length priorities) (λ i. within 1 255 (getD priorities i 0))) 0 19 → y ≡ startRefusal (modelOf bs) slots priorities
   unfolding startRefusal
   start-priorities h e y p = failing _ (lt-leb 1 (length (modelOf bs .tasks)) (omega (arith, length-tasks bs))) (holding _ e p)
-
--- ---- a count too great for its class
-
-module _ (attributes count : ℕ) where
-  abbrev isLimited : Bool
-  isLimited = isBinary attributes or isSimple attributes
-
-  pub count-small : count ≤ 1 → false ≡ (isLimited and leb 2 count)
-  count-small h = sym (and-second isLimited (lt-leb 2 count (omega arith)))
-
-  pub count-great : 1 < count → (r : Bool) → r ≡ isLimited → r ≡ (isLimited and leb 2 count)
-  count-great h r e = e ∙ sym (ap (λ (b : Bool). isLimited and b) (le-leb 2 count h) ∙ and-true isLimited)
-    where
-      and-true : (b : Bool) → (b and true) ≡ b
-      and-true true = unfold choose in refl
-      and-true false = unfold choose in refl
 
 -- ---- a semaphore that is owned
 

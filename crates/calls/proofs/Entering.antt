@@ -11,12 +11,10 @@ use lib.ListN.{length, getD}
 use lib.Seq.{getD-take}
 use borrow.Author.Tests.{eqb-true, eqb-false, eq-eqb, ne-eqb}
 use Rattle.laws.specs.Choose.{choose, _or_}
-use Rattle.laws.proofs.Choose.{never, tested, if-yes, if-no, or-either, choose-cases}
-use Rattle.rules.specs.Numbers.{maxNumber, isBinary, isSimple, maximum}
+use Rattle.laws.proofs.Choose.{tested, if-yes, if-no}
 use Rattle.rules.specs.Machine.{Slot, Tables, freeSlot, slotOf, isLive, names, slotNamed}
 use Rattle.rules.specs.Agreement.{Agrees}
 use Rattle.rules.specs.Calls.{Outcome, refused, unless, taskOnly, anyCaller}
-use Rattle.rules.proofs.Invariants.Facts.{SlotFits, Unheld, Held}
 use Rattle.rules.proofs.Invariants.FromTests.{agrees-facts}
 use Rattle.rules.proofs.Invariants.Room.{queue-room, queue-joins}
 use Rattle.rules.proofs.Invariants.Refusals.{Caller, found}
@@ -86,21 +84,6 @@ module _ {first : ℕ → ℕ} (f : CallerFirst first) {x : ℕ} (is : x ≡ fir
 pub waiters-are : {s : Semaphore} {slot : Slot} → Stands s slot → s .waiters ≡ length (slot .queue)
 waiters-are {s} st = sym (length-queue s (st .padded)) ∙ ap (λ (x : Slot). length (x .queue)) (st .same)
 
--- a live semaphore's count is at most its maximum
-count-most : (N : ℕ) (u : ℕ → ℕ) (s : Slot) → SlotFits N u s → isLive s ≡ true → s .count ≤ maximum (s .attributes)
-count-most N u s fits l =
-    choose-cases (λ (k : ℕ). s .count ≤ k) (isBinary (s .attributes) or isSimple (s .attributes)) 1 maxNumber limited (λ e. fits .count)
-  where
-    limited : (isBinary (s .attributes) or isSimple (s .attributes)) ≡ true → s .count ≤ 1
-    limited e =
-        ⊎-elim
-        (λ (b : isBinary (s .attributes) ≡ true).
-        ⊎-elim (λ (z : Unheld s). omega (arith, z .count)) (λ (z : Held N s). omega (arith, z .count)) (fits .whenLive l .owned b))
-        (λ (b : isBinary (s .attributes) ≡ false).
-        ⊎-elim (λ (m : isBinary (s .attributes) ≡ true). never m b) (λ (m : isSimple (s .attributes) ≡ true). fits .whenLive l .unowned b .simple m)
-        (or-either _ _ e))
-        (tested (isBinary (s .attributes)))
-
 module _ {t : Tables} (a : Agrees t) {id n : ℕ} {s : Semaphore} (f : Found t id n s) where
   pub slot-few : n ≤ 64
   slot-few = omega (arith, f .high, slots-few t a)
@@ -132,10 +115,9 @@ module _ {t : Tables} (a : Agrees t) {id n : ℕ} {s : Semaphore} (f : Found t i
   pub ready-room : length (t .ready) + s .waiters ≤ 32
   ready-room = omega (arith, waiters-are (f .stands), tasks-few t a, queue-joins t (agrees-facts t a) (pred n) (f .live))
 
-  pub count-within : s .count ≤ maximum (s .attributes)
+  pub count-within : s .count ≤ s .maximum
   count-within =
-      subst (λ (x : Slot). x .count ≤ maximum (x .attributes)) (sym (f .stands .same))
-      (count-most _ _ (slotOf t n) (agrees-facts t a .slots (pred n)) (f .live))
+      subst (λ (x : Slot). x .count ≤ x .maximum) (sym (f .stands .same)) (agrees-facts t a .slots (pred n) .whenLive (f .live) .maximum .count)
 
 -- ---- what `enter` shows
 

@@ -35,9 +35,10 @@ call-held call vs is = fits call (owed call-type.the-type call-laws.the-laws cal
     fits : (call : Call) → Fields (variants call-type.the-type) (spellss (call-type.the-type .parts) call-laws.the-laws) (call-type.the-type .to call)
         → callFits call ≡ true
     fits (Start slots) f = le-leb slots maxNumber (omega arith)
-    fits (Create caller name count attributes) f =
+    fits (Create caller name count attributes maximum) f =
         both-and (le-leb caller maxNumber (omega arith))
-        (both-and (le-leb name maxNumber (omega arith)) (both-and (le-leb count maxNumber (omega arith)) (le-leb attributes maxNumber (omega arith))))
+        (both-and (le-leb name maxNumber (omega arith)) (both-and (le-leb count maxNumber (omega arith))
+        (both-and (le-leb attributes maxNumber (omega arith)) (le-leb maximum maxNumber (omega arith)))))
     fits (Ident name) f = le-leb name maxNumber (omega arith)
     fits (Delete caller id) f = both-and (le-leb caller maxNumber (omega arith)) (le-leb id maxNumber (omega arith))
     fits (Obtain caller id wait) f =

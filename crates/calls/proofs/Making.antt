@@ -68,20 +68,20 @@ module _ (t : Tables) (slots : ℕ) (priorities : List ℕ) (x : ℕ) (p : x ≡
 
 -- ---- create
 
-module _ (t : Tables) (caller name count attributes x : ℕ) (p : x ≡ createRefusal t caller name count attributes) where
-  pub create-refused : (x ≡ 0 → ⊥) → create t caller name count attributes ≡ refused t x
+module _ (t : Tables) (caller name count attributes maximum x : ℕ) (p : x ≡ createRefusal t caller name count attributes maximum) where
+  pub create-refused : (x ≡ 0 → ⊥) → create t caller name count attributes maximum ≡ refused t x
   unfolding create
   create-refused n = unless-refused t _ x (sym p) n
 
   -- a create that is not refused has found a slot
   pub opened : x ≡ 0 → (n : ℕ) → n ≡ openSlot t → Hit isOpen (t .slots) 0 n
-  opened z n asked = subst (Hit isOpen (t .slots) 0) (sym asked) (create-passed t caller name count attributes (sym p ∙ z))
+  opened z n asked = subst (Hit isOpen (t .slots) 0) (sym asked) (create-passed t caller name count attributes maximum (sym p ∙ z))
 
   pub create-done : x ≡ 0 → (n g : ℕ) → n ≡ openSlot t → g ≡ slotOf t n .generation
-      → create t caller name count attributes ≡ answered 0 ((g + 1) * 65536 + n) (putSlot t n (newSemaphore g caller name count attributes))
+      → create t caller name count attributes maximum ≡ answered 0 ((g + 1) * 65536 + n) (putSlot t n (newSemaphore g caller name count attributes maximum))
   unfolding create newSemaphore
   create-done z n g asked read =
       unless-done t _ (sym p ∙ z)
       ∙ ap {B = Outcome} (λ (k : ℕ). answered 0 ((slotOf t k .generation + 1) * 65536 + k)
-      (putSlot t k (newSemaphore (slotOf t k .generation) caller name count attributes))) (sym asked)
-      ∙ ap {B = Outcome} (λ (h : ℕ). answered 0 ((h + 1) * 65536 + n) (putSlot t n (newSemaphore h caller name count attributes))) (sym read)
+      (putSlot t k (newSemaphore (slotOf t k .generation) caller name count attributes maximum))) (sym asked)
+      ∙ ap {B = Outcome} (λ (h : ℕ). answered 0 ((h + 1) * 65536 + n) (putSlot t n (newSemaphore h caller name count attributes maximum))) (sym read)

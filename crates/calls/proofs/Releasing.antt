@@ -7,7 +7,7 @@ use lib.ListN.{length, getD}
 use borrow.Author.Tests.{leb-true}
 use Rattle.laws.specs.Choose.{choose, _and_, isnt}
 use Rattle.laws.proofs.Choose.{if-eq, if-ne, choose-cases}
-use Rattle.rules.specs.Numbers.{isBinary, maximum}
+use Rattle.rules.specs.Numbers.{isBinary}
 use Rattle.rules.specs.Machine.{Slot, Tables, slotOf, putSlot}
 use Rattle.rules.specs.Agreement.{Agrees}
 use Rattle.rules.specs.Semaphore.{ownedBy, Given, giveStep, passStep}
@@ -27,7 +27,7 @@ woken-within s caller N h =
     choose-cases P (isBinary (s .attributes) and isnt (ownedBy s caller)) _ _ (λ e. omega arith)
     (λ e. choose-cases P (isBinary (s .attributes) and leb 2 (s .nest)) _ _ (λ e. omega arith)
     (λ e. choose-cases P (leb 1 (length (s .queue))) _ _ (λ q. h 0 (leb-true 1 (length (s .queue)) q))
-    (λ e. choose-cases P (eqb (s .count) (maximum (s .attributes))) _ _ (λ e. omega arith) (λ e. omega arith))))
+    (λ e. choose-cases P (eqb (s .count) (s .maximum)) _ _ (λ e. omega arith) (λ e. omega arith))))
   where
     P : Given → Type 0
     P g = g .woken ≤ N
@@ -39,7 +39,7 @@ woken-queued s caller =
     choose-cases P (isBinary (s .attributes) and isnt (ownedBy s caller)) _ _ (λ e n. absurd (n refl))
     (λ e. choose-cases P (isBinary (s .attributes) and leb 2 (s .nest)) _ _ (λ e n. absurd (n refl))
     (λ e. choose-cases P (leb 1 (length (s .queue))) _ _ (λ q n. leb-true 1 (length (s .queue)) q)
-    (λ e. choose-cases P (eqb (s .count) (maximum (s .attributes))) _ _ (λ e n. absurd (n refl)) (λ e n. absurd (n refl)))))
+    (λ e. choose-cases P (eqb (s .count) (s .maximum)) _ _ (λ e n. absurd (n refl)) (λ e n. absurd (n refl)))))
   where
     P : Given → Type 0
     P g = (g .woken ≡ 0 → ⊥) → 1 ≤ length (s .queue)

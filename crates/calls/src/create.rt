@@ -1,31 +1,22 @@
 // Create: 18, 4, 14, then 3, 11, 10, 5.
 use super::Done;
 ghost use mathlib.Core.Path.{_≡_};
-ghost use lib.Dec.{leb};
-ghost use Rattle.laws.specs.Choose.{_and_, _or_};
-ghost use Rattle.rules.specs.Numbers.{isBinary, isSimple};
 ghost use Rattle.rules.specs.Calls.{create, createRefusal};
 ghost use Rattle.tables.specs.Layout.{modelOf};
 ghost use Rattle.tables.specs.Sizes.{Sized};
 ghost use Rattle.calls.specs.Agreeing.{Agreeing};
 ghost use Rattle.calls.specs.Reply.{Does};
 
-// Whether a count is too great for its class.
-fn is_count_over(count: u32, attributes: u32) -> bool
-    ensures { λ r. ⌜ r ≡ ((isBinary attributes or isSimple attributes) and leb 2 count) ⌝ }
-{
-    if count <= 1 {
-        return false;
-    }
-    if rules::is_binary(attributes) {
-        return true;
-    }
-    rules::is_simple(attributes)
-}
-
-fn create_refusal(m: &[u8], caller: u32, name: u32, count: u32, attributes: u32) -> u32
+fn create_refusal(
+    m: &[u8],
+    caller: u32,
+    name: u32,
+    count: u32,
+    attributes: u32,
+    maximum: u32,
+) -> u32
     requires { ⌜ Sized (now m) ⌝ }
-    ensures { λ r. ⌜ r ≡ createRefusal (modelOf (now (m .entry))) caller name count attributes ⌝ }
+    ensures { λ r. ⌜ r ≡ createRefusal (modelOf (now (m .entry))) caller name count attributes maximum ⌝ }
 {
     let refusal = lookup::task_only(m, caller);
     if refusal != 0 {
@@ -37,7 +28,7 @@ fn create_refusal(m: &[u8], caller: u32, name: u32, count: u32, attributes: u32)
     if !rules::is_allowed(attributes) {
         return rules::NOT_DEFINED;
     }
-    if is_count_over(count, attributes) {
+    if !rules::is_count_allowed(count, attributes, maximum) {
         return rules::INVALID_NUMBER;
     }
     if lookup::open_slot(m) == 0 {
@@ -46,17 +37,24 @@ fn create_refusal(m: &[u8], caller: u32, name: u32, count: u32, attributes: u32)
     0
 }
 
-pub fn create(m: &mut [u8], caller: u32, name: u32, count: u32, attributes: u32) -> Done
+pub fn create(
+    m: &mut [u8],
+    caller: u32,
+    name: u32,
+    count: u32,
+    attributes: u32,
+    maximum: u32,
+) -> Done
     requires { ⌜ Agreeing (now m) ⌝ }
-    ensures { λ r. ⌜ Does (now (m .entry)) (now (m .exit)) r (λ t. create t caller name count attributes) ⌝ }
+    ensures { λ r. ⌜ Does (now (m .entry)) (now (m .exit)) r (λ t. create t caller name count attributes maximum) ⌝ }
 {
-    let refusal = create_refusal(m, caller, name, count, attributes);
+    let refusal = create_refusal(m, caller, name, count, attributes, maximum);
     if refusal != 0 {
         return Done(refusal, 0);
     }
     let n = lookup::open_slot(m);
     let generation = tables::slot_generation(m, (n - 1) as usize);
-    let s = semaphore::created(generation, caller, name, count, attributes);
+    let s = semaphore::created(generation, caller, name, count, attributes, maximum);
     changes::put_slot(m, n, s);
     Done(0, (generation + 1) * rules::GENERATION_UNIT + n)
 }

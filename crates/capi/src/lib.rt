@@ -20,10 +20,11 @@ pub extern "C" fn mast_create(
     name: u32,
     count: u32,
     attributes: u32,
+    maximum: u32,
 ) -> Answer
-    ensures { λ r. ⌜ Replied r (now (tables .exit)) (replyTo (now (tables .entry)) (Create caller name count attributes) []) ⌝ }
+    ensures { λ r. ⌜ Replied r (now (tables .exit)) (replyTo (now (tables .entry)) (Create caller name count attributes maximum) []) ⌝ }
 {
-    manager::create(tables, caller, name, count, attributes)
+    manager::create(tables, caller, name, count, attributes, maximum)
 }
 
 #[no_mangle]

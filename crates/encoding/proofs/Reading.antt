@@ -174,7 +174,7 @@ module _ (ns : List ℕ) (h : 1 ≤ eventSize ns) where
   event-turn k = if-ne (eventSize ns) 0 _ _ (λ z. omega arith) ∙ if-eq (getD ns 0 0) 1 _ _ k
 
   pub event-other : (getD ns 0 0 ≡ 1 → ⊥) → eventAt ns ≡ Other (record {
-    call = callOf (getD ns 0 0) (getD ns 1 0) (getD ns 2 0) (getD ns 3 0) (getD ns 4 0);
+    call = callOf (getD ns 0 0) (getD ns 1 0) (getD ns 2 0) (getD ns 3 0) (getD ns 4 0) (getD ns 5 0);
     priorities = prioritiesOf ns;
   })
   unfolding eventAt
@@ -183,6 +183,6 @@ module _ (ns : List ℕ) (h : 1 ≤ eventSize ns) where
   pub turn-allowed : (w : Input) → getD ns 0 0 ≡ 1 → isAllowed w (eventAt ns) ≡ hasScript w (getD ns 1 0)
   turn-allowed w k = ap (isAllowed w) (event-turn k)
 
-  pub other-allowed : (w : Input) → (getD ns 0 0 ≡ 1 → ⊥) → isAllowed w (eventAt ns) ≡ isnt (hasScript w (callerOf (callOf (getD ns 0 0) (getD ns 1 0) (getD ns
-      2 0) (getD ns 3 0) (getD ns 4 0))))
+  pub other-allowed : (w : Input) → (getD ns 0 0 ≡ 1 → ⊥) → isAllowed w (eventAt ns) ≡ isnt (hasScript w
+      (callerOf (callOf (getD ns 0 0) (getD ns 1 0) (getD ns 2 0) (getD ns 3 0) (getD ns 4 0) (getD ns 5 0))))
   other-allowed w k = ap (isAllowed w) (event-other k)

@@ -1,5 +1,6 @@
 -- Events as numbers laid end to end: a kind, then its numbers as in a session's line. 1 turn TASK, 2 start SLOTS COUNT PRIORITY ..,
--- 3 create CALLER NAME COUNT ATTRIBUTES, 4 ident NAME, 5 delete CALLER ID, 6 obtain CALLER ID OPTIONS TIMEOUT, 7 release CALLER ID, 8 flush CALLER ID, 9 tick.
+-- 3 create CALLER NAME COUNT ATTRIBUTES MAXIMUM, 4 ident NAME, 5 delete CALLER ID, 6 obtain CALLER ID OPTIONS TIMEOUT, 7 release CALLER ID,
+-- 8 flush CALLER ID, 9 tick.
 use mathlib.Core.Bool.{Bool}
 use mathlib.Core.List.{List, [], _∷_}
 use Prim.Native.Nat.{ℕ, zero, suc, pred, _+_}
@@ -17,7 +18,7 @@ unfoldable pub sizeOf : ℕ → ℕ → ℕ
 sizeOf kind count =
     choose (eqb kind 1) 2
     (choose (eqb kind 2) (3 + count)
-    (choose (eqb kind 3) 5
+    (choose (eqb kind 3) 6
     (choose (eqb kind 4) 2
     (choose (eqb kind 5) 3
     (choose (eqb kind 6) 5
@@ -25,10 +26,10 @@ sizeOf kind count =
     (choose (eqb kind 8) 3
     (choose (eqb kind 9) 1 0))))))))
 
-unfoldable pub callOf : ℕ → ℕ → ℕ → ℕ → ℕ → Call
-callOf kind a b c d =
+unfoldable pub callOf : ℕ → ℕ → ℕ → ℕ → ℕ → ℕ → Call
+callOf kind a b c d e =
     choose (eqb kind 2) (Start a)
-    (choose (eqb kind 3) (Create a b c d)
+    (choose (eqb kind 3) (Create a b c d e)
     (choose (eqb kind 4) (Ident a)
     (choose (eqb kind 5) (Delete a b)
     (choose (eqb kind 6) (Obtain a b (waitOf c d))
@@ -46,7 +47,7 @@ unfoldable pub eventAt : List ℕ → Event
 eventAt ns =
     choose (eqb (eventSize ns) 0) NoEvent
     (choose (eqb (getD ns 0 0) 1) (Turn (getD ns 1 0))
-    (Other (record { call = callOf (getD ns 0 0) (getD ns 1 0) (getD ns 2 0) (getD ns 3 0) (getD ns 4 0); priorities = prioritiesOf ns })))
+    (Other (record { call = callOf (getD ns 0 0) (getD ns 1 0) (getD ns 2 0) (getD ns 3 0) (getD ns 4 0) (getD ns 5 0); priorities = prioritiesOf ns })))
 
 -- the events behind `skip` numbers; with what is no event the reading ends
 unfoldable pub eventsFrom : ℕ → List ℕ → List Event

@@ -45,7 +45,7 @@ fn size_of(kind: u32, count: u32) -> usize
         return 3 + (count as usize);
     }
     if kind == CREATE {
-        return 5;
+        return 6;
     }
     if kind == IDENT {
         return 2;
@@ -68,8 +68,8 @@ fn size_of(kind: u32, count: u32) -> usize
     0
 }
 
-fn call_of(kind: u32, a: u32, b: u32, c: u32, d: u32) -> Call
-    ensures { λ r. ⌜ r ≡ callOf kind a b c d ⌝ }
+fn call_of(kind: u32, a: u32, b: u32, c: u32, d: u32, e: u32) -> Call
+    ensures { λ r. ⌜ r ≡ callOf kind a b c d e ⌝ }
 {
     if kind == START {
         return Call::Start { slots: a };
@@ -80,6 +80,7 @@ fn call_of(kind: u32, a: u32, b: u32, c: u32, d: u32) -> Call
             name: b,
             count: c,
             attributes: d,
+            maximum: e,
         };
     }
     if kind == IDENT {
@@ -119,7 +120,7 @@ pub fn event_size(e: &[u32]) -> usize
 // The call of an event that is no turn.
 pub fn call_at(e: &[u32]) -> Call
     ensures { λ r. ⌜ r ≡ callOf (getD (now (e .entry)) 0 0) (getD (now (e .entry)) 1 0) (getD (now (e .entry)) 2 0) (getD (now (e .entry)) 3 0)
-        (getD (now (e .entry)) 4 0) ⌝ }
+        (getD (now (e .entry)) 4 0) (getD (now (e .entry)) 5 0) ⌝ }
 {
     call_of(
         number_at(e, 0),
@@ -127,6 +128,7 @@ pub fn call_at(e: &[u32]) -> Call
         number_at(e, 2),
         number_at(e, 3),
         number_at(e, 4),
+        number_at(e, 5),
     )
 }
 
@@ -154,6 +156,7 @@ pub fn caller_of(call: Call) -> u32
             name: _,
             count: _,
             attributes: _,
+            maximum: _,
         } => caller,
         Call::Ident { name: _ } => 0,
         Call::Delete { caller, id: _ } => caller,

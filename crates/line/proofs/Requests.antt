@@ -32,6 +32,10 @@ rest-taken zero l = refl
 rest-taken (suc m) [] = sym (take-nil (suc m - 1))
 rest-taken (suc m) (x ∷ xs) = let s : m ≡ suc m - 1 = omega arith in ap (λ (n : ℕ). take n xs) s
 
+-- what a word asks with `k` numbers, of which the first five are those of `ns`
+abbrev askedOf : Word → ℕ → List ℕ → Line
+askedOf v k ns = askedBy v k (getD ns 0 0) (getD ns 1 0) (getD ns 2 0) (getD ns 3 0) (getD ns 4 0)
+
 -- ---- the numbers that are read are the first `k` of `ns`
 
 module _ (ns : List ℕ) (k : ℕ) (fits : k ≤ length ns) where
@@ -51,7 +55,7 @@ module _ (ns : List ℕ) (k : ℕ) (fits : k ≤ length ns) where
   read-at i h = getD-take k ns i 0 h
 
   starts : choose (leb 1 (length (take k ns))) (some (record { call = Start (getD (take k ns) 0 0); priorities = drop 1 (take k ns) })) none
-      ≡ scanned (askedBy w.Start k (getD ns 0 0) (getD ns 1 0) (getD ns 2 0) (getD ns 3 0)) ns
+      ≡ scanned (askedOf w.Start k ns) ns
   unfolding askedBy
   starts =
       let taken : List ℕ = drop 1 (take k ns) in
@@ -68,20 +72,20 @@ module _ (ns : List ℕ) (k : ℕ) (fits : k ≤ length ns) where
       (tested (leb 1 k))
 
   -- a test of the word picks in both
-  picks : (t : Bool) (x y : Option Request) (v v′ : Word) → x ≡ scanned (askedBy v k (getD ns 0 0) (getD ns 1 0) (getD ns 2 0) (getD ns 3 0)) ns
-      → y ≡ scanned (askedBy v′ k (getD ns 0 0) (getD ns 1 0) (getD ns 2 0) (getD ns 3 0)) ns
-      → choose t x y ≡ scanned (askedBy (choose t v v′) k (getD ns 0 0) (getD ns 1 0) (getD ns 2 0) (getD ns 3 0)) ns
+  picks : (t : Bool) (x y : Option Request) (v v′ : Word) → x ≡ scanned (askedOf v k ns) ns
+      → y ≡ scanned (askedOf v′ k ns) ns
+      → choose t x y ≡ scanned (askedOf (choose t v v′) k ns) ns
   unfolding choose
   picks true x y v v′ e f = e
   picks false x y v v′ e f = f
 
-  pub request-is : (f : List ℕ) → requestOf f (take k ns) ≡ scanned (askedBy (wordOf f) k (getD ns 0 0) (getD ns 1 0) (getD ns 2 0) (getD ns 3 0)) ns
+  pub request-is : (f : List ℕ) → requestOf f (take k ns) ≡ scanned (askedOf (wordOf f) k ns) ns
   unfolding requestOf wordOf askedBy
   request-is f =
       picks (sameBytes f startWord) _ _ _ _ starts
       (picks (sameBytes f createWord) _ _ _ _
-      (with-arity 4 (λ l. Create (getD l 0 0) (getD l 1 0) (getD l 2 0) (getD l 3 0))
-      (λ e. cc (read-at 0 (omega arith), read-at 1 (omega arith), read-at 2 (omega arith), read-at 3 (omega arith))))
+      (with-arity 5 (λ l. Create (getD l 0 0) (getD l 1 0) (getD l 2 0) (getD l 3 0) (getD l 4 0))
+      (λ e. cc (read-at 0 (omega arith), read-at 1 (omega arith), read-at 2 (omega arith), read-at 3 (omega arith), read-at 4 (omega arith))))
       (picks (sameBytes f identWord) _ _ _ _ (with-arity 1 (λ l. Ident (getD l 0 0)) (λ e. cc (read-at 0 (omega arith))))
       (picks (sameBytes f deleteWord) _ _ _ _
       (with-arity 2 (λ l. Delete (getD l 0 0) (getD l 1 0)) (λ e. cc (read-at 0 (omega arith), read-at 1 (omega arith))))
@@ -130,13 +134,13 @@ module _ (bs : List ℕ) (n : ℕ) (short : length bs ≤ maxLine) (ends : n ≡
       (tested (areNumbers (others bs)))
 
   pub line-read : (ns : List ℕ) (k : ℕ) (r : Line) → allNumbers (others (drop n bs)) ≡ some (take k ns) → k ≤ length ns
-      → r ≡ askedBy (wordOf (take n bs)) k (getD ns 0 0) (getD ns 1 0) (getD ns 2 0) (getD ns 3 0)
+      → r ≡ askedOf (wordOf (take n bs)) k ns
       → lineOf bs ≡ scanned r ns
   line-read ns k r e fits asks =
       let word : first bs ≡ take n bs = word-is bs ∙ ap (λ (m : ℕ). take m bs) (sym ends) in
       line-numbers (take k ns) e
       ∙ request-is ns k fits (first bs)
-      ∙ ap (λ (f : List ℕ). scanned (askedBy (wordOf f) k (getD ns 0 0) (getD ns 1 0) (getD ns 2 0) (getD ns 3 0)) ns) word
+      ∙ ap (λ (f : List ℕ). scanned (askedOf (wordOf f) k ns) ns) word
       ∙ sym (ap (λ (l : Line). scanned l ns) asks)
 
   unknown-word : (ns : List ℕ) → wordOf (first bs) ≡ w.Unknown → requestOf (first bs) ns ≡ none
@@ -144,7 +148,7 @@ module _ (bs : List ℕ) (n : ℕ) (short : length bs ≤ maxLine) (ends : n ≡
   unknown-word ns e =
       ap (requestOf (first bs)) (sym (take-length ns))
       ∙ request-is ns (length ns) (le-refl (length ns)) (first bs)
-      ∙ ap (λ (v : Word). scanned (askedBy v (length ns) (getD ns 0 0) (getD ns 1 0) (getD ns 2 0) (getD ns 3 0)) ns) e
+      ∙ ap (λ (v : Word). scanned (askedOf v (length ns) ns) ns) e
 
   -- the same from what the code's functions answer
   pub scan-unknown : (word : Word) → word ≡ wordOf (take n bs) → word ≡ w.Unknown → lineOf bs ≡ none
@@ -160,11 +164,11 @@ module _ (bs : List ℕ) (n : ℕ) (short : length bs ≤ maxLine) (ends : n ≡
   pub scan-read : (x : Numbers) (ns : List ℕ) (k : ℕ) (word : Word) (r : Line) → allNumbers (others (drop n bs)) ≡ numbersRead x ns → placed x ≤ length ns
       → x ≡ Count k
       → word ≡ wordOf (take n bs)
-      → r ≡ askedBy word k (getD ns 0 0) (getD ns 1 0) (getD ns 2 0) (getD ns 3 0)
+      → r ≡ askedOf word k ns
       → lineOf bs ≡ scanned r ns
   scan-read x ns k word r e fits counts is asks =
       line-read ns k r (e ∙ ap (λ (x : Numbers). numbersRead x ns) counts) (subst (λ (x : Numbers). placed x ≤ length ns) counts fits)
-      (asks ∙ ap (λ (v : Word). askedBy v k (getD ns 0 0) (getD ns 1 0) (getD ns 2 0) (getD ns 3 0)) is)
+      (asks ∙ ap (λ (v : Word). askedOf v k ns) is)
 
 pub word-fits : (bs : List ℕ) → length (first bs) ≤ length bs
 word-fits bs = omega (arith, ap length (word-is bs), length-take (length (first bs)) bs)

@@ -95,7 +95,7 @@ unfoldable pub requestOf : List ℕ → List ℕ → Option Request
 requestOf word ns =
     let n : ℕ → ℕ = λ i. getD ns i 0 in
     choose (sameBytes word startWord) (choose (leb 1 (length ns)) (some (record { call = Start (n 0); priorities = drop 1 ns })) none)
-    (choose (sameBytes word createWord) (taking 4 ns (asked (Create (n 0) (n 1) (n 2) (n 3))))
+    (choose (sameBytes word createWord) (taking 5 ns (asked (Create (n 0) (n 1) (n 2) (n 3) (n 4))))
     (choose (sameBytes word identWord) (taking 1 ns (asked (Ident (n 0))))
     (choose (sameBytes word deleteWord) (taking 2 ns (asked (Delete (n 0) (n 1))))
     (choose (sameBytes word obtainWord) (taking 4 ns (asked (Obtain (n 0) (n 1) (waitOf (n 2) (n 3)))))

@@ -63,14 +63,14 @@ wordOf f =
 abbrev pub withCount : ℕ → ℕ → Call → Line
 withCount arity count call = choose (eqb count arity) (Asked call 0) Bad
 
--- what a word asks with `count` numbers, of which these are the first four
-unfoldable pub askedBy : Word → ℕ → ℕ → ℕ → ℕ → ℕ → Line
-askedBy w.Start count a b c d = choose (leb 1 count) (Asked (Start a) (count - 1)) Bad
-askedBy w.Create count a b c d = withCount 4 count (Create a b c d)
-askedBy w.Ident count a b c d = withCount 1 count (Ident a)
-askedBy w.Delete count a b c d = withCount 2 count (Delete a b)
-askedBy w.Obtain count a b c d = withCount 4 count (Obtain a b (waitOf c d))
-askedBy w.Release count a b c d = withCount 2 count (Release a b)
-askedBy w.Flush count a b c d = withCount 2 count (Flush a b)
-askedBy w.Tick count a b c d = withCount 0 count Tick
-askedBy w.Unknown count a b c d = Bad
+-- what a word asks with `count` numbers, of which these are the first five
+unfoldable pub askedBy : Word → ℕ → ℕ → ℕ → ℕ → ℕ → ℕ → Line
+askedBy w.Start count a b c d e = choose (leb 1 count) (Asked (Start a) (count - 1)) Bad
+askedBy w.Create count a b c d e = withCount 5 count (Create a b c d e)
+askedBy w.Ident count a b c d e = withCount 1 count (Ident a)
+askedBy w.Delete count a b c d e = withCount 2 count (Delete a b)
+askedBy w.Obtain count a b c d e = withCount 4 count (Obtain a b (waitOf c d))
+askedBy w.Release count a b c d e = withCount 2 count (Release a b)
+askedBy w.Flush count a b c d e = withCount 2 count (Flush a b)
+askedBy w.Tick count a b c d e = withCount 0 count Tick
+askedBy w.Unknown count a b c d e = Bad

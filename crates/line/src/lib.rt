@@ -175,7 +175,7 @@ fn taking(arity: usize, count: usize, call: Call) -> Line
 }
 
 fn starting(count: usize, slots: u32) -> Line
-    ensures { λ r. ⌜ r ≡ askedBy Word.Start count slots 0 0 0 ⌝ }
+    ensures { λ r. ⌜ r ≡ askedBy Word.Start count slots 0 0 0 0 ⌝ }
 {
     if count < 1 {
         return Line::Bad;
@@ -186,20 +186,21 @@ fn starting(count: usize, slots: u32) -> Line
     }
 }
 
-// The request of a word with `count` numbers, of which `a` to `d` are the first four.
-fn request_of(word: Word, count: usize, a: u32, b: u32, c: u32, d: u32) -> Line
-    ensures { λ r. ⌜ r ≡ askedBy word count a b c d ⌝ }
+// The request of a word with `count` numbers, of which `a` to `e` are the first five.
+fn request_of(word: Word, count: usize, a: u32, b: u32, c: u32, d: u32, e: u32) -> Line
+    ensures { λ r. ⌜ r ≡ askedBy word count a b c d e ⌝ }
 {
     match word {
         Word::Start => starting(count, a),
         Word::Create => taking(
-            4,
+            5,
             count,
             Call::Create {
                 caller: a,
                 name: b,
                 count: c,
                 attributes: d,
+                maximum: e,
             },
         ),
         Word::Ident => taking(1, count, Call::Ident { name: a }),
@@ -241,6 +242,7 @@ pub fn scan(line: &[u8], numbers: &mut [u32; 128]) -> Line
             numbers[1],
             numbers[2],
             numbers[3],
+            numbers[4],
         ),
     }
 }

@@ -35,14 +35,22 @@ pub fn start(m: &mut [u8], slots: u32, priorities: &[u32]) -> Answer
     call(m, Call::Start { slots }, priorities)
 }
 
-pub fn create(m: &mut [u8], caller: u32, name: u32, count: u32, attributes: u32) -> Answer
-    ensures { λ r. ⌜ Replied r (now (m .exit)) (replyTo (now (m .entry)) (Create caller name count attributes) []) ⌝ }
+pub fn create(
+    m: &mut [u8],
+    caller: u32,
+    name: u32,
+    count: u32,
+    attributes: u32,
+    maximum: u32,
+) -> Answer
+    ensures { λ r. ⌜ Replied r (now (m .exit)) (replyTo (now (m .entry)) (Create caller name count attributes maximum) []) ⌝ }
 {
     let c = Call::Create {
         caller,
         name,
         count,
         attributes,
+        maximum,
     };
     call(m, c, &[])
 }

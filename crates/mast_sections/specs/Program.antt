@@ -13,9 +13,9 @@ use Rattle.text.specs.Feeding.{Lent}
 use Rattle.mast_sections.specs.declared.Ended.{Ended}
 use Rattle.mast_sections.specs.declared.Ended.the-variants.{Handed, Unread}
 
--- 1024 cells, 8192 lines of scripts, sections and steps at four numbers each, and 524288 numbers of events
+-- 1024 cells, 8192 lines of scripts, sections and steps at four numbers each, and 655360 numbers of events
 abbrev pub room : Room
-room = record { cells = 1024; scripts = 32768; events = 524288 }
+room = record { cells = 1024; scripts = 32768; events = 655360 }
 
 -- the report of the run that was read
 unfoldable pub printed : Reading → List ℕ
@@ -38,7 +38,7 @@ pub record HasRoom (l : Lent) : Type 0 where
   pub bytes : length (l .bytes) ≡ tablesLength
   pub cells : length (l .cells) ≡ 1024
   pub scripts : length (l .scripts) ≡ 32768
-  pub events : length (l .events) ≡ 524288
+  pub events : length (l .events) ≡ 655360
 
 -- the bytes handed to standard output are the whole report, which stands at the front of the output
 pub record Shows (n : ℕ) (report out : List ℕ) : Type 0 where

@@ -17,7 +17,7 @@ const CELLS: usize = 1024;
 
 const SCRIPTS: usize = 32768;
 
-const EVENTS: usize = 524288;
+const EVENTS: usize = 655360;
 
 // How many bytes were handed to standard output, or that the text could not be read.
 enum Ended {
@@ -42,7 +42,7 @@ fn tell_limit(fault: u32) {
     }
     io::write_all(
         STDERR_FILENO,
-        b"there is room for 524288 numbers of events (a tick has 1, a turn 2, an obtain 5), and this event has more.\n",
+        b"there is room for 655360 numbers of events (a tick has 1, a turn 2, a create 6), and this event has more.\n",
     );
 }
 

@@ -41,9 +41,10 @@ module _ (t : Tables) where
   unfolding choose isIn given startRefusal
   starts slots priorities = search choose-in depth 8
 
-  creates : (caller name count attributes : ℕ) → isIn (createRefusal t caller name count attributes) (given (Create caller name count attributes)) ≡ true
+  creates : (caller name count attributes maximum : ℕ)
+      → isIn (createRefusal t caller name count attributes maximum) (given (Create caller name count attributes maximum)) ≡ true
   unfolding choose isIn given createRefusal
-  creates caller name count attributes = search choose-in depth 12
+  creates caller name count attributes maximum = search choose-in depth 12
 
   deletes : (caller id : ℕ) → isIn (deleteRefusal t caller id) (given (Delete caller id)) ≡ true
   unfolding choose isIn given deleteRefusal
@@ -73,7 +74,7 @@ module _ (t : Tables) where
 zero-given : (call : Call) → isIn 0 (given call) ≡ true
 unfolding choose isIn given
 zero-given (Start slots) = refl
-zero-given (Create caller name count attributes) = refl
+zero-given (Create caller name count attributes maximum) = refl
 zero-given (Ident name) = refl
 zero-given (Delete caller id) = refl
 zero-given (Obtain caller id wait) = refl
@@ -95,8 +96,8 @@ something t call value after v = done value after (zero-given call) (λ e. never
 pub performed : (t : Tables) (call : Call) (priorities : List ℕ) → Performed t call (perform t call priorities)
 unfolding valued perform start create ident delete obtain release flush tick
 performed t (Start slots) priorities = unless-performed t _ _ _ (starts t slots priorities) (nothing t _ _)
-performed t (Create caller name count attributes) priorities =
-    unless-performed t _ _ _ (creates t caller name count attributes) (something t _ _ _ refl)
+performed t (Create caller name count attributes maximum) priorities =
+    unless-performed t _ _ _ (creates t caller name count attributes maximum) (something t _ _ _ refl)
 performed t (Ident name) priorities = unless-performed t _ _ _ (idents t _ name) (something t _ _ _ refl)
 performed t (Delete caller id) priorities = unless-performed t _ _ _ (deletes t caller id) (nothing t _ _)
 performed t (Obtain caller id wait) priorities =

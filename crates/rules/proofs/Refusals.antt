@@ -19,7 +19,7 @@ use Rattle.rules.proofs.Performed.Performed.{refusing, done, began}
 internal-not-given : (call : Call) → isIn 25 (given call) ≡ false
 unfolding choose isIn given
 internal-not-given (Start slots) = refl
-internal-not-given (Create caller name count attributes) = refl
+internal-not-given (Create caller name count attributes maximum) = refl
 internal-not-given (Ident name) = refl
 internal-not-given (Delete caller id) = refl
 internal-not-given (Obtain caller id wait) = refl

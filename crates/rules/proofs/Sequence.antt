@@ -197,10 +197,12 @@ module _ (t : Tables) (f : Facts t) where
             (rw length-map (those-joining (upTo (length priorities))));
       })
 
-  create-right : (caller name count attributes : ℕ) → Right t (Create caller name count attributes) (create t caller name count attributes)
+  create-right : (caller name count attributes maximum : ℕ)
+      → Right t (Create caller name count attributes maximum) (create t caller name count attributes maximum)
   unfolding create
-  create-right caller name count attributes =
-      unless-right (Create caller name count attributes) (createRefusal t caller name count attributes) _ (λ e. unmoved-right _ _ (f .ready) refl)
+  create-right caller name count attributes maximum =
+      unless-right (Create caller name count attributes maximum) (createRefusal t caller name count attributes maximum) _
+      (λ e. unmoved-right _ _ (f .ready) refl)
 
   ident-right : (name : ℕ) → Right t (Ident name) (ident t name)
   unfolding ident
@@ -306,7 +308,7 @@ module _ (t : Tables) (f : Facts t) where
   perform-right : (call : Call) (priorities : List ℕ) → Right t call (perform t call priorities)
   unfolding perform
   perform-right (Start slots) priorities = start-right slots priorities
-  perform-right (Create caller name count attributes) priorities = create-right caller name count attributes
+  perform-right (Create caller name count attributes maximum) priorities = create-right caller name count attributes maximum
   perform-right (Ident name) priorities = ident-right name
   perform-right (Delete caller id) priorities = delete-right caller id
   perform-right (Obtain caller id wait) priorities = obtain-right caller id wait

@@ -10,6 +10,7 @@ use Rattle.laws.specs.Choose.{choose, _and_}
 use Rattle.laws.proofs.Choose.{and-both, or-either, or-first, or-second, tested}
 use Rattle.rules.specs.declared.Call.{Call}
 use Rattle.rules.specs.declared.Call.the-variants.{Start, Create, Ident, Delete, Obtain, Release, Flush, Tick}
+use Rattle.rules.specs.Numbers.{classMaximum}
 use Rattle.rules.specs.Machine.{Tables, unstarted, freeSlot}
 use Rattle.rules.specs.Agreement.{agrees}
 use Rattle.rules.specs.Calls.{step}
@@ -61,10 +62,10 @@ abbrev fresh : Tables
 fresh = tablesOf (startWith 1 (1 ∷ 2 ∷ []) ∷ [])
 
 abbrev made : ℕ → ℕ → Tables
-made count attributes = tablesOf (startWith 1 (1 ∷ 2 ∷ []) ∷ ask (Create 1 7 count attributes) ∷ [])
+made count attributes = tablesOf (startWith 1 (1 ∷ 2 ∷ []) ∷ ask (Create 1 7 count attributes (classMaximum attributes)) ∷ [])
 
 abbrev stuck : Tables
-stuck = tablesOf (startWith 1 (1 ∷ 2 ∷ []) ∷ ask (Create 1 7 0 0) ∷ obtains 1 65537 0 0 ∷ [])
+stuck = tablesOf (startWith 1 (1 ∷ 2 ∷ []) ∷ ask (Create 1 7 0 0 4294967295) ∷ obtains 1 65537 0 0 ∷ [])
 
 -- a witness for each listed status, in the list's order
 witnesses : Call → List Witness
@@ -75,16 +76,16 @@ witnesses (Start slots) =
     ∷ on fresh (startWith 1 (1 ∷ []))
     ∷ on unstarted (startWith 1 (256 ∷ []))
     ∷ []
-witnesses (Create caller name count attributes) =
-    on broken (ask (Create 1 7 1 0))
-    ∷ on fresh (ask (Create 1 7 1 0))
-    ∷ on fresh (ask (Create 1 0 1 0))
-    ∷ on fresh (ask (Create 3 7 1 0))
-    ∷ on (made 1 0) (ask (Create 1 7 1 0))
-    ∷ on fresh (ask (Create 1 7 2 16))
-    ∷ on fresh (ask (Create 1 7 1 48))
-    ∷ on stuck (ask (Create 1 7 1 0))
-    ∷ on fresh (ask (Create 0 7 1 0))
+witnesses (Create caller name count attributes maximum) =
+    on broken (ask (Create 1 7 1 0 4294967295))
+    ∷ on fresh (ask (Create 1 7 1 0 4294967295))
+    ∷ on fresh (ask (Create 1 0 1 0 4294967295))
+    ∷ on fresh (ask (Create 3 7 1 0 4294967295))
+    ∷ on (made 1 0) (ask (Create 1 7 1 0 4294967295))
+    ∷ on fresh (ask (Create 1 7 2 16 1))
+    ∷ on fresh (ask (Create 1 7 1 48 1))
+    ∷ on stuck (ask (Create 1 7 1 0 4294967295))
+    ∷ on fresh (ask (Create 0 7 1 0 4294967295))
     ∷ []
 witnesses (Ident name) = on broken (ask (Ident 7)) ∷ on (made 1 0) (ask (Ident 7)) ∷ on fresh (ask (Ident 7)) ∷ []
 witnesses (Delete caller id) =
@@ -119,7 +120,7 @@ witnesses Tick = on broken (ask Tick) ∷ on fresh (ask Tick) ∷ []
 answer-listed : (call : Call) → map statusOf (witnesses call) ≡ listed call
 unfolding answersOf statusOf witnesses given listed
 answer-listed (Start slots) = refl
-answer-listed (Create caller name count attributes) = refl
+answer-listed (Create caller name count attributes maximum) = refl
 answer-listed (Ident name) = refl
 answer-listed (Delete caller id) = refl
 answer-listed (Obtain caller id wait) = refl
@@ -130,7 +131,7 @@ answer-listed Tick = refl
 are-of-kind : (call : Call) → ofKind (kindOf call) (witnesses call) ≡ true
 unfolding choose ofKind kindOf witnesses
 are-of-kind (Start slots) = refl
-are-of-kind (Create caller name count attributes) = refl
+are-of-kind (Create caller name count attributes maximum) = refl
 are-of-kind (Ident name) = refl
 are-of-kind (Delete caller id) = refl
 are-of-kind (Obtain caller id wait) = refl

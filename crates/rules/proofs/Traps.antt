@@ -1,10 +1,12 @@
--- Document 01's cases "Run by a program" and "Ways to get it nearly right", and the sequence of request 1, computed on the rules.
+-- Document 01's cases "Run by a program" and "Ways to get it nearly right", the sequence of request 1 and the maxima of request 4, computed
+-- on the rules.
 use mathlib.Core.Path.{_≡_, refl}
 use mathlib.Core.List.{List, [], _∷_, map}
 use Prim.Native.Nat.{ℕ}
 use lib.ListN.{replicate}
 use Rattle.rules.specs.declared.Task.{Task}
 use Rattle.rules.specs.declared.Call.the-variants.{Create, Ident, Delete, Release, Flush, Tick}
+use Rattle.rules.specs.Numbers.{classMaximum}
 use Rattle.rules.specs.Machine.{Slot, freeSlot}
 use Rattle.rules.specs.Runs.{answers}
 use Rattle.rules.proofs.Asking.{Line, _gives_, ask, startWith, obtains, says, requests, expected, answersOf, tablesOf}
@@ -26,7 +28,7 @@ second = 65538
 abbrev starts : List Line
 starts =
     (ask Tick gives says 0 0 0)
-    ∷ (ask (Create 1 7 1 0) gives says 4 0 0)
+    ∷ (ask (Create 1 7 1 0 4294967295) gives says 4 0 0)
     ∷ (startWith 0 (0 ∷ []) gives says 10 0 0)
     ∷ (startWith 65 (1 ∷ []) gives says 10 0 0)
     ∷ (startWith 1 [] gives says 10 0 0)
@@ -41,15 +43,15 @@ starts =
 abbrev creates : List Line
 creates =
     three 1 2 3
-    ∷ (ask (Create 1 0 1 48) gives says 3 0 1)
-    ∷ (ask (Create 1 7 1 48) gives says 11 0 1)
-    ∷ (ask (Create 1 7 2 16) gives says 10 0 1)
-    ∷ (ask (Create 1 7 2 36) gives says 10 0 1)
-    ∷ (ask (Create 1 7 1 16) gives says 0 first 1)
-    ∷ (ask (Create 1 7 1 36) gives says 0 second 1)
-    ∷ (ask (Create 1 7 1 36) gives says 5 0 1)
-    ∷ (ask (Create 1 7 2 36) gives says 10 0 1)
-    ∷ (ask (Create 1 7 2 48) gives says 11 0 1)
+    ∷ (ask (Create 1 0 1 48 1) gives says 3 0 1)
+    ∷ (ask (Create 1 7 1 48 1) gives says 11 0 1)
+    ∷ (ask (Create 1 7 2 16 1) gives says 10 0 1)
+    ∷ (ask (Create 1 7 2 36 1) gives says 10 0 1)
+    ∷ (ask (Create 1 7 1 16 1) gives says 0 first 1)
+    ∷ (ask (Create 1 7 1 36 1) gives says 0 second 1)
+    ∷ (ask (Create 1 7 1 36 1) gives says 5 0 1)
+    ∷ (ask (Create 1 7 2 36 1) gives says 10 0 1)
+    ∷ (ask (Create 1 7 2 48 1) gives says 11 0 1)
     ∷ (ask (Ident 7) gives says 0 first 1)
     ∷ (ask (Ident 0) gives says 3 0 1)
     ∷ []
@@ -58,7 +60,7 @@ creates =
 abbrev callers : List Line
 callers =
     three 1 2 3
-    ∷ (ask (Create 1 7 0 0) gives says 0 first 1)
+    ∷ (ask (Create 1 7 0 0 4294967295) gives says 0 first 1)
     ∷ (obtains 2 first 0 0 gives says 100 0 1)
     ∷ (obtains 4 first 0 0 gives says 4 0 1)
     ∷ (ask (Release 4 9) gives says 4 0 1)
@@ -67,7 +69,7 @@ callers =
     ∷ (obtains 1 9 0 0 gives says 4 0 1)
     ∷ (obtains 0 9 0 0 gives says 18 0 1)
     ∷ (ask (Delete 0 9) gives says 18 0 1)
-    ∷ (ask (Create 0 0 1 48) gives says 18 0 1)
+    ∷ (ask (Create 0 0 1 48 1) gives says 18 0 1)
     ∷ (ask (Flush 0 9) gives says 4 0 1)
     ∷ (ask (Release 0 first) gives says 0 0 1)
     ∷ (startWith 0 [] gives says 14 0 1)
@@ -77,7 +79,7 @@ callers =
 abbrev interrupts : List Line
 interrupts =
     three 1 2 3
-    ∷ (ask (Create 1 7 1 16) gives says 0 first 1)
+    ∷ (ask (Create 1 7 1 16 1) gives says 0 first 1)
     ∷ (ask (Release 0 first) gives says 23 0 1)
     ∷ (obtains 1 first 0 0 gives says 0 0 1)
     ∷ (ask (Release 0 first) gives says 23 0 1)
@@ -88,7 +90,7 @@ interrupts =
 abbrev timeouts : List Line
 timeouts =
     three 1 2 3
-    ∷ (ask (Create 3 7 0 0) gives says 0 first 1)
+    ∷ (ask (Create 3 7 0 0 4294967295) gives says 0 first 1)
     ∷ (obtains 1 first 0 1 gives says 100 0 2)
     ∷ (obtains 2 first 0 2 gives says 100 0 3)
     ∷ (ask Tick gives says 0 0 1)
@@ -102,7 +104,7 @@ timeouts =
 abbrev options : List Line
 options =
     three 1 2 3
-    ∷ (ask (Create 3 7 0 0) gives says 0 first 1)
+    ∷ (ask (Create 3 7 0 0 4294967295) gives says 0 first 1)
     ∷ (obtains 1 first 2 0 gives says 100 0 2)
     ∷ (ask Tick gives says 0 0 2)
     ∷ (obtains 2 first 3 5 gives says 13 0 2)
@@ -114,7 +116,7 @@ options =
 abbrev arrivals : List Line
 arrivals =
     three 5 5 9
-    ∷ (ask (Create 3 7 0 4) gives says 0 first 1)
+    ∷ (ask (Create 3 7 0 4 4294967295) gives says 0 first 1)
     ∷ (obtains 2 first 0 0 gives says 100 0 1)
     ∷ (obtains 1 first 0 0 gives says 100 0 3)
     ∷ (ask (Release 3 first) gives says 0 0 2)
@@ -125,7 +127,7 @@ arrivals =
 abbrev urgent : List Line
 urgent =
     (startWith 1 (5 ∷ 4 ∷ 9 ∷ []) gives says 0 0 2)
-    ∷ (ask (Create 3 7 0 4) gives says 0 first 2)
+    ∷ (ask (Create 3 7 0 4 4294967295) gives says 0 first 2)
     ∷ (obtains 1 first 0 0 gives says 100 0 2)
     ∷ (obtains 2 first 0 0 gives says 100 0 3)
     ∷ (ask (Release 3 first) gives says 0 0 2)
@@ -135,7 +137,7 @@ urgent =
 abbrev inTurn : List Line
 inTurn =
     (startWith 1 (5 ∷ 4 ∷ 9 ∷ []) gives says 0 0 2)
-    ∷ (ask (Create 3 7 0 0) gives says 0 first 2)
+    ∷ (ask (Create 3 7 0 0 4294967295) gives says 0 first 2)
     ∷ (obtains 1 first 0 0 gives says 100 0 2)
     ∷ (obtains 2 first 0 0 gives says 100 0 3)
     ∷ (ask (Release 3 first) gives says 0 0 1)
@@ -146,7 +148,7 @@ inTurn =
 abbrev nests : List Line
 nests =
     three 1 2 3
-    ∷ (ask (Create 1 7 0 20) gives says 0 first 1)
+    ∷ (ask (Create 1 7 0 20 1) gives says 0 first 1)
     ∷ (obtains 1 first 0 0 gives says 0 0 1)
     ∷ (obtains 2 first 0 0 gives says 100 0 1)
     ∷ (ask (Flush 3 first) gives says 0 0 1)
@@ -158,7 +160,7 @@ nests =
 abbrev simples : List Line
 simples =
     three 1 2 3
-    ∷ (ask (Create 1 7 1 32) gives says 0 first 1)
+    ∷ (ask (Create 1 7 1 32 1) gives says 0 first 1)
     ∷ (obtains 1 first 0 0 gives says 0 0 1)
     ∷ (obtains 1 first 0 0 gives says 100 0 2)
     ∷ (ask (Flush 0 first) gives says 0 0 1)
@@ -169,7 +171,7 @@ simples =
 abbrev flushes : List Line
 flushes =
     three 1 2 3
-    ∷ (ask (Create 1 7 2 0) gives says 0 first 1)
+    ∷ (ask (Create 1 7 2 0 4294967295) gives says 0 first 1)
     ∷ (ask (Flush 1 first) gives says 0 0 1)
     ∷ (obtains 1 first 1 0 gives says 0 0 1)
     ∷ (obtains 1 first 1 0 gives says 0 0 1)
@@ -180,11 +182,11 @@ flushes =
 abbrev reused : List Line
 reused =
     three 1 2 3
-    ∷ (ask (Create 1 7 0 0) gives says 0 first 1)
+    ∷ (ask (Create 1 7 0 0 4294967295) gives says 0 first 1)
     ∷ (obtains 1 first 0 0 gives says 100 0 2)
     ∷ (ask (Delete 2 first) gives says 0 0 1)
     ∷ (ask (Release 1 first) gives says 4 0 1)
-    ∷ (ask (Create 1 8 1 0) gives says 0 again 1)
+    ∷ (ask (Create 1 8 1 0 4294967295) gives says 0 again 1)
     ∷ (obtains 1 first 0 0 gives says 4 0 1)
     ∷ (obtains 1 again 0 0 gives says 0 0 1)
     ∷ []
@@ -193,7 +195,7 @@ reused =
 abbrev inQueueOrder : List Line
 inQueueOrder =
     (startWith 1 (5 ∷ 9 ∷ 5 ∷ []) gives says 0 0 1)
-    ∷ (ask (Create 2 7 0 4) gives says 0 first 1)
+    ∷ (ask (Create 2 7 0 4 4294967295) gives says 0 first 1)
     ∷ (obtains 3 first 0 0 gives says 100 0 1)
     ∷ (obtains 1 first 0 0 gives says 100 0 2)
     ∷ (ask (Flush 2 first) gives says 0 0 3)
@@ -206,7 +208,7 @@ inQueueOrder =
 abbrev inTaskOrder : List Line
 inTaskOrder =
     (startWith 1 (5 ∷ 9 ∷ 5 ∷ []) gives says 0 0 1)
-    ∷ (ask (Create 2 7 0 4) gives says 0 first 1)
+    ∷ (ask (Create 2 7 0 4 4294967295) gives says 0 first 1)
     ∷ (obtains 3 first 0 1 gives says 100 0 1)
     ∷ (obtains 1 first 0 1 gives says 100 0 2)
     ∷ (ask Tick gives says 0 0 1)
@@ -216,17 +218,40 @@ inTaskOrder =
 abbrev unmoved : List Line
 unmoved =
     three 5 5 5
-    ∷ (ask (Create 1 7 1 0) gives says 0 first 1)
+    ∷ (ask (Create 1 7 1 0 4294967295) gives says 0 first 1)
     ∷ (obtains 1 first 0 0 gives says 0 0 1)
     ∷ (obtains 1 first 1 0 gives says 13 0 1)
     ∷ (ask (Release 1 first) gives says 0 0 1)
     ∷ (ask Tick gives says 0 0 1)
     ∷ []
 
+-- a release goes to the semaphore's own maximum; 10 is for a count above it and for a maximum that is not allowed, after 11 and before 5
+abbrev maxima : List Line
+maxima =
+    (startWith 2 (1 ∷ []) gives says 0 0 1)
+    ∷ (ask (Create 1 7 13 0 12) gives says 10 0 1)
+    ∷ (ask (Create 1 7 0 0 0) gives says 10 0 1)
+    ∷ (ask (Create 1 7 1 16 2) gives says 10 0 1)
+    ∷ (ask (Create 1 7 1 36 2) gives says 10 0 1)
+    ∷ (ask (Create 1 7 0 16 0) gives says 10 0 1)
+    ∷ (ask (Create 1 7 13 48 12) gives says 11 0 1)
+    ∷ (ask (Create 1 7 11 0 12) gives says 0 first 1)
+    ∷ (ask (Release 0 first) gives says 0 0 1)
+    ∷ (ask (Release 0 first) gives says 13 0 1)
+    ∷ (obtains 1 first 0 0 gives says 0 0 1)
+    ∷ (ask (Release 1 first) gives says 0 0 1)
+    ∷ (ask (Release 1 first) gives says 13 0 1)
+    ∷ (ask (Create 1 8 1 4 1) gives says 0 second 1)
+    ∷ (ask (Create 1 9 2 0 1) gives says 10 0 1)
+    ∷ (ask (Create 1 9 1 0 1) gives says 5 0 1)
+    ∷ (ask (Release 1 second) gives says 13 0 1)
+    ∷ (ask (Delete 1 first) gives says 0 0 1)
+    ∷ []
+
 abbrev runs : List (List Line)
 runs =
     starts ∷ creates ∷ callers ∷ interrupts ∷ timeouts ∷ options ∷ arrivals ∷ urgent ∷ inTurn ∷ nests ∷ simples ∷ flushes ∷ reused
-    ∷ inQueueOrder ∷ inTaskOrder ∷ unmoved ∷ []
+    ∷ inQueueOrder ∷ inTaskOrder ∷ unmoved ∷ maxima ∷ []
 
 -- what the calls answer in each run
 Traps : map (λ run. answersOf (requests run)) runs ≡ map expected runs
@@ -238,10 +263,20 @@ ready priority answer = record { priority = priority; answer = answer; awaited =
 
 abbrev live : ℕ → ℕ → ℕ → ℕ → ℕ → List ℕ → Slot
 live generation name attributes owner nest queue =
-    record { generation = generation; live = 1; name = name; attributes = attributes; count = 0; owner = owner; nest = nest; queue = queue }
+    record {
+      generation = generation;
+      live = 1;
+      name = name;
+      attributes = attributes;
+      count = 0;
+      owner = owner;
+      nest = nest;
+      maximum = classMaximum attributes;
+      queue = queue;
+    }
 
--- every number of the tables that five of the runs leave
-Leftovers : map (λ run. tablesOf (requests run)) (timeouts ∷ inTurn ∷ nests ∷ simples ∷ reused ∷ [])
+-- every number of the tables that six of the runs leave
+Leftovers : map (λ run. tablesOf (requests run)) (timeouts ∷ inTurn ∷ nests ∷ simples ∷ reused ∷ maxima ∷ [])
     ≡ record { tasks = ready 1 6 ∷ ready 2 6 ∷ ready 3 0 ∷ []; slots = live 1 7 0 0 0 [] ∷ freeSlot 0 ∷ []; ready = 3 ∷ 1 ∷ 2 ∷ [] }
     ∷ record {
       tasks = ready 5 0 ∷ record { priority = 4; answer = 100; awaited = first; ticks = 0 } ∷ ready 9 0 ∷ [];
@@ -251,6 +286,12 @@ Leftovers : map (λ run. tablesOf (requests run)) (timeouts ∷ inTurn ∷ nests
     ∷ record { tasks = ready 1 0 ∷ ready 2 13 ∷ ready 3 0 ∷ []; slots = live 1 7 20 1 1 [] ∷ freeSlot 0 ∷ []; ready = 1 ∷ 3 ∷ 2 ∷ [] }
     ∷ record { tasks = ready 1 13 ∷ ready 2 0 ∷ ready 3 0 ∷ []; slots = live 1 7 32 0 0 [] ∷ freeSlot 0 ∷ []; ready = 2 ∷ 3 ∷ 1 ∷ [] }
     ∷ record { tasks = ready 1 7 ∷ ready 2 0 ∷ ready 3 0 ∷ []; slots = live 2 8 0 0 0 [] ∷ freeSlot 0 ∷ []; ready = 2 ∷ 3 ∷ 1 ∷ [] }
+    ∷ record {
+      tasks = ready 1 0 ∷ [];
+      slots = freeSlot 1
+          ∷ record { generation = 1; live = 1; name = 8; attributes = 4; count = 1; owner = 0; nest = 0; maximum = 1; queue = [] } ∷ [];
+      ready = 1 ∷ [];
+    }
     ∷ []
 unfolding answersOf
 Leftovers = refl
@@ -263,7 +304,7 @@ Sequences = refl
 
 -- numbers at their ends: a slot is not used again after generation 65535, and a nest stops at 4294967295
 Ends : answers (record { tasks = ready 1 0 ∷ []; slots = freeSlot 65534 ∷ []; ready = 1 ∷ [] })
-    (ask (Create 1 7 1 0) ∷ ask (Delete 1 4294901761) ∷ ask (Create 1 7 1 0) ∷ [])
+    (ask (Create 1 7 1 0 4294967295) ∷ ask (Delete 1 4294901761) ∷ ask (Create 1 7 1 0 4294967295) ∷ [])
     ∷ answers (record { tasks = ready 1 0 ∷ []; slots = live 1 7 16 1 4294967295 [] ∷ []; ready = 1 ∷ [] })
     (obtains 1 first 0 0 ∷ ask (Release 1 first) ∷ obtains 1 first 0 0 ∷ [])
     ∷ []

@@ -1,5 +1,6 @@
--- Document 01, with the sequence of ready tasks of request 1: when tables agree, a test for each clause.
--- That the lent memory has its layout's length, and that everything beyond N, S, a queue's length and the sequence's is 0, is said of the bytes: `isLaid` of crates/tables/specs/Layout.antt.
+-- Document 01, with the sequence of ready tasks of request 1 and the maxima of request 4: when tables agree, a test for each clause.
+-- That the lent memory has its layout's length, and that everything beyond N, S, a queue's length and the sequence's is 0, is said of the bytes:
+-- `isLaid` of crates/tables/specs/Layout.antt.
 use mathlib.Core.Path.{_≡_}
 use mathlib.Core.Bool.{Bool, true}
 use mathlib.Core.List.{List, [], _∷_}
@@ -9,7 +10,7 @@ use lib.ListN.{length, getD}
 use Rattle.laws.specs.Choose.{_and_, _or_, isnt, when, bit}
 use Rattle.laws.specs.All.{all}
 use Rattle.rules.specs.declared.Task.{Task}
-use Rattle.rules.specs.Numbers.{maxTasks, maxSlots, maxPriority, maxGeneration, maxNumber, within, allowed, byPriority, isBinary, isSimple}
+use Rattle.rules.specs.Numbers.{maxTasks, maxSlots, maxPriority, maxGeneration, maxNumber, within, allowed, byPriority, isBinary, isSimple, allowedCount}
 use Rattle.rules.specs.Machine.{Slot, Tables, taskOf, slotOf, isTask, waits, isLive, idOf, names, urgency}
 
 -- a test of each task and its number, of each slot and its number, of each live slot and its number
@@ -91,18 +92,22 @@ isBinaryRight N s =
 abbrev pub isOtherRight : Slot → Bool
 isOtherRight s = eqb (s .owner) 0 and eqb (s .nest) 0 and when (isSimple (s .attributes)) (leb (s .count) 1)
 
+-- the maximum is one create allows, and the count at most that
+abbrev pub isMaximumRight : Slot → Bool
+isMaximumRight s = allowedCount (s .count) (s .attributes) (s .maximum)
+
 -- 0 but for the generation
 abbrev pub isClear : Slot → Bool
 isClear s =
     eqb (s .name) 0 and eqb (s .attributes) 0 and eqb (s .count) 0 and eqb (s .owner) 0 and eqb (s .nest) 0
-    and eqb (length (s .queue)) 0
+    and eqb (s .maximum) 0 and eqb (length (s .queue)) 0
 
 -- ---- the clauses
 
 unfoldable pub sizesFit : Tables → Bool
 sizesFit t = countsFit (length (t .tasks)) (length (t .slots))
 
--- every other number is within its limits; those of answers, attributes, owners, queues and the sequence follow from the clauses below
+-- every other number is within its limits; those of answers, attributes, owners, maxima, queues and the sequence follow from the clauses below
 unfoldable pub numbersFit : Tables → Bool
 numbersFit t = eachTask t (λ q v. taskInLimits v) and eachSlot t (λ n s. slotInLimits s)
 
@@ -138,6 +143,9 @@ binariesRight t = eachLive t (λ n s. when (isBinary (s .attributes)) (isBinaryR
 unfoldable pub othersRight : Tables → Bool
 othersRight t = eachLive t (λ n s. when (isnt (isBinary (s .attributes))) (isOtherRight s))
 
+unfoldable pub maximaRight : Tables → Bool
+maximaRight t = eachLive t (λ n s. isMaximumRight s)
+
 unfoldable pub readyAtRest : Tables → Bool
 readyAtRest t = eachTask t (λ q v. when (isnt (waits v)) (isAtRest v))
 
@@ -165,6 +173,7 @@ pub record Agrees (t : Tables) : Type 0 where
   pub atZero : queuedAtZero t ≡ true
   pub owned : binariesRight t ≡ true
   pub unowned : othersRight t ≡ true
+  pub maxima : maximaRight t ≡ true
   pub atRest : readyAtRest t ≡ true
   pub clear : freeSlotsClear t ≡ true
   pub sequenced : readySequenced t ≡ true
@@ -174,5 +183,5 @@ pub record Agrees (t : Tables) : Type 0 where
 unfoldable pub agrees : Tables → Bool
 agrees t =
     sizesFit t and numbersFit t and answersFit t and liveNamed t and attributesAllowed t and waitersQueued t and queuesWait t
-    and queuesOrdered t and queuedAtZero t and binariesRight t and othersRight t and readyAtRest t and freeSlotsClear t
-    and readySequenced t and sequenceReady t
+    and queuesOrdered t and queuedAtZero t and binariesRight t and othersRight t and maximaRight t and readyAtRest t
+    and freeSlotsClear t and readySequenced t and sequenceReady t

@@ -1,4 +1,5 @@
--- Document 01, with the sequence of ready tasks of request 1: the eight calls, step by step, and the whole step with the test for 25.
+-- Document 01, with the sequence of ready tasks of request 1 and the maxima of request 4: the eight calls, step by step, and the whole step with the test
+-- for 25.
 -- Checks give a status, or 0 for no refusal.
 -- The numbers of a call are those of 32 bits, which `callFits` of Fits.antt says; the definitions do not depend on it, that agreement is kept does.
 use mathlib.Core.Bool.{Bool}
@@ -14,7 +15,7 @@ use Rattle.rules.specs.declared.Wait.{Wait}
 use Rattle.rules.specs.declared.Call.{Call}
 use Rattle.rules.specs.declared.Call.the-variants.{Start, Create, Ident, Delete, Obtain, Release, Flush, Tick}
 use Rattle.rules.specs.declared.Answer.{Answer}
-use Rattle.rules.specs.Numbers.{maxTasks, maxSlots, maxPriority, maxGeneration, within, allowed, isBinary, isSimple, successful}
+use Rattle.rules.specs.Numbers.{maxTasks, maxSlots, maxPriority, maxGeneration, within, allowed, isBinary, allowedCount, successful}
 use Rattle.rules.specs.Numbers.{invalidName, invalidId, tooMany, timeout, objectWasDeleted, invalidNumber, notDefined, resourceInUse}
 use Rattle.rules.specs.Numbers.{unsatisfied, incorrectState, calledFromIsr, invalidPriority, internalError, waiting}
 use Rattle.rules.specs.Machine.{Slot, Tables, freeSlot, withReady, taskOf, slotOf, putTask, putSlot, waits, isLive}
@@ -96,18 +97,17 @@ firstFree (s ∷ ss) n = let later = firstFree ss (suc n) in choose (isnt (isLiv
 abbrev pub openSlot : Tables → ℕ
 openSlot t = firstFree (t .slots) 1
 
-unfoldable pub createRefusal : Tables → ℕ → ℕ → ℕ → ℕ → ℕ
-createRefusal t caller name count attributes =
+-- 10 is for a maximum not allowed and for a count above the maximum; that of both binary classes is 1, so it is for their counts above 1
+unfoldable pub createRefusal : Tables → ℕ → ℕ → ℕ → ℕ → ℕ → ℕ
+createRefusal t caller name count attributes maximum =
     taskOnly t caller
     (choose (eqb name 0) invalidName
     (choose (allowed attributes)
-    (choose ((isBinary attributes or isSimple attributes) and leb 2 count) invalidNumber
-    (choose (eqb (openSlot t) 0) tooMany 0))
-    notDefined))
+    (choose (allowedCount count attributes maximum) (choose (eqb (openSlot t) 0) tooMany 0) invalidNumber) notDefined))
 
 -- binary with count 0 is owned by the caller with nest 1
-unfoldable pub newSemaphore : ℕ → ℕ → ℕ → ℕ → ℕ → Slot
-newSemaphore generation caller name count attributes =
+unfoldable pub newSemaphore : ℕ → ℕ → ℕ → ℕ → ℕ → ℕ → Slot
+newSemaphore generation caller name count attributes maximum =
     let owned = isBinary attributes and eqb count 0 in
     record {
       generation = generation + 1;
@@ -117,14 +117,15 @@ newSemaphore generation caller name count attributes =
       count = count;
       owner = choose owned caller 0;
       nest = choose owned 1 0;
+      maximum = maximum;
       queue = [];
     }
 
-unfoldable pub create : Tables → ℕ → ℕ → ℕ → ℕ → Outcome
-create t caller name count attributes =
+unfoldable pub create : Tables → ℕ → ℕ → ℕ → ℕ → ℕ → Outcome
+create t caller name count attributes maximum =
     let n = openSlot t in
-    let s = newSemaphore (slotOf t n .generation) caller name count attributes in
-    unless (createRefusal t caller name count attributes) t (answered successful (idOf n s) (putSlot t n s))
+    let s = newSemaphore (slotOf t n .generation) caller name count attributes maximum in
+    unless (createRefusal t caller name count attributes maximum) t (answered successful (idOf n s) (putSlot t n s))
 
 -- ---- ident: 3
 
@@ -263,7 +264,7 @@ tick t = answered successful 0 (tickedTables t)
 
 unfoldable pub perform : Tables → Call → List ℕ → Outcome
 perform t (Start slots) priorities = start t slots priorities
-perform t (Create caller name count attributes) priorities = create t caller name count attributes
+perform t (Create caller name count attributes maximum) priorities = create t caller name count attributes maximum
 perform t (Ident name) priorities = ident t name
 perform t (Delete caller id) priorities = delete t caller id
 perform t (Obtain caller id wait) priorities = obtain t caller id wait

@@ -21,7 +21,7 @@ waitFits (Ticks n) = fits n
 
 abbrev pub callFits : Call → Bool
 callFits (Start slots) = fits slots
-callFits (Create caller name count attributes) = fits caller and fits name and fits count and fits attributes
+callFits (Create caller name count attributes maximum) = fits caller and fits name and fits count and fits attributes and fits maximum
 callFits (Ident name) = fits name
 callFits (Delete caller id) = fits caller and fits id
 callFits (Obtain caller id wait) = fits caller and fits id and waitFits wait

@@ -21,6 +21,8 @@ pub record Slot : Type 0 where
   pub owner : ℕ
   -- how often the owner has obtained it and not released it
   pub nest : ℕ
+  -- request 4: the greatest count, 0 while free
+  pub maximum : ℕ
   -- the tasks that wait, first to be served first
   pub queue : List ℕ
 
@@ -49,7 +51,7 @@ abbrev pub noTask : Task
 noTask = record { priority = 0; answer = 0; awaited = 0; ticks = 0 }
 
 abbrev pub freeSlot : ℕ → Slot
-freeSlot g = record { generation = g; live = 0; name = 0; attributes = 0; count = 0; owner = 0; nest = 0; queue = [] }
+freeSlot g = record { generation = g; live = 0; name = 0; attributes = 0; count = 0; owner = 0; nest = 0; maximum = 0; queue = [] }
 
 abbrev pub taskOf : Tables → ℕ → Task
 taskOf t q = getD (t .tasks) (pred q) noTask

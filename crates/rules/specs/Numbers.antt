@@ -92,6 +92,14 @@ isBinary a = eqb a 16 or eqb a 20
 abbrev pub isSimple : ℕ → Bool
 isSimple a = eqb a 32 or eqb a 36
 
--- the count at which a release is 13; a binary semaphore that its owner releases has count 0, so there it never decides
-abbrev pub maximum : ℕ → ℕ
-maximum a = choose (isBinary a or isSimple a) 1 maxNumber
+-- request 4: the greatest maximum of a class, 4294967295 for counting and 1 for both binary classes
+abbrev pub classMaximum : ℕ → ℕ
+classMaximum a = choose (isBinary a or isSimple a) 1 maxNumber
+
+-- the maxima that create allows: 1 to 4294967295 for counting; both binary classes must be given 1
+abbrev pub allowedMaximum : ℕ → ℕ → Bool
+allowedMaximum a m = within 1 (classMaximum a) m
+
+-- the maximum m is one create allows, and the count at most that
+abbrev pub allowedCount : ℕ → ℕ → ℕ → Bool
+allowedCount count a m = allowedMaximum a m and leb count m

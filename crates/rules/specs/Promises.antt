@@ -32,7 +32,7 @@ pub record IsRefusal (status : ℕ) : Type 0 where
 -- the calls whose success has a value
 unfoldable pub valued : Call → Bool
 valued (Start slots) = false
-valued (Create caller name count attributes) = true
+valued (Create caller name count attributes maximum) = true
 valued (Ident name) = true
 valued (Delete caller id) = false
 valued (Obtain caller id wait) = false
@@ -43,7 +43,7 @@ valued Tick = false
 -- what a call may answer on tables that agree
 unfoldable pub given : Call → List ℕ
 given (Start slots) = successful ∷ invalidNumber ∷ incorrectState ∷ invalidPriority ∷ []
-given (Create caller name count attributes) =
+given (Create caller name count attributes maximum) =
     successful ∷ invalidName ∷ invalidId ∷ tooMany ∷ invalidNumber ∷ notDefined ∷ incorrectState ∷ calledFromIsr ∷ []
 given (Ident name) = successful ∷ invalidName ∷ []
 given (Delete caller id) = successful ∷ invalidId ∷ resourceInUse ∷ incorrectState ∷ calledFromIsr ∷ []
@@ -63,7 +63,7 @@ isIn n (x ∷ xs) = eqb n x or isIn n xs
 -- the kinds of calls
 unfoldable pub kindOf : Call → ℕ
 kindOf (Start slots) = 1
-kindOf (Create caller name count attributes) = 2
+kindOf (Create caller name count attributes maximum) = 2
 kindOf (Ident name) = 3
 kindOf (Delete caller id) = 4
 kindOf (Obtain caller id wait) = 5
@@ -98,7 +98,7 @@ pub data NextIs (t : Tables) (q : ℕ) : Type 0 where
 -- at a start and a tick all tasks by their numbers, at the other calls nobody
 unfoldable pub joining : Tables → Call → Tables → List ℕ
 joining t (Start slots) u = upTo (length (u .tasks))
-joining t (Create caller name count attributes) u = []
+joining t (Create caller name count attributes maximum) u = []
 joining t (Ident name) u = []
 joining t (Delete caller id) u = slotOf t (slotNamed t id) .queue
 joining t (Obtain caller id wait) u = []
@@ -119,7 +119,7 @@ sequenceAfter t call u = those (isReadyTask u) (t .ready) ++ those (becomesReady
 -- a call takes that identifier
 unfoldable pub takes : Call → ℕ → Bool
 takes (Start slots) n = false
-takes (Create caller name count attributes) n = false
+takes (Create caller name count attributes maximum) n = false
 takes (Ident name) n = false
 takes (Delete caller id) n = eqb id n
 takes (Obtain caller id wait) n = eqb id n
@@ -129,8 +129,8 @@ takes Tick n = false
 
 -- of the answers to calls, each with any priorities beside it: no create and no ident gives the identifier, and a call that takes it is refused
 pub record NeverAgain (answer : Call → List ℕ → Answer) (id : ℕ) : Type 0 where
-  pub notCreated : (caller name count attributes : ℕ) (priorities : List ℕ) → let a =
-      answer (Create caller name count attributes) priorities in a .status ≡ successful → a .value ≡ id → ⊥
+  pub notCreated : (caller name count attributes maximum : ℕ) (priorities : List ℕ) → let a =
+      answer (Create caller name count attributes maximum) priorities in a .status ≡ successful → a .value ≡ id → ⊥
   pub notFound : (name : ℕ) (priorities : List ℕ) → let a = answer (Ident name) priorities in a .status ≡ successful → a .value ≡ id → ⊥
   pub refused : (call : Call) (priorities : List ℕ) → takes call id ≡ true → IsRefusal (answer call priorities .status)
 

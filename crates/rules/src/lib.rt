@@ -4,7 +4,7 @@ ghost use mathlib.Core.Bool.{true};
 ghost use mathlib.Core.List.{List, _∷_};
 ghost use Prim.Native.Nat.{ℕ};
 ghost use lib.ListN.{length};
-ghost use Rattle.rules.specs.Numbers.{allowed, byPriority, isBinary, isSimple};
+ghost use Rattle.rules.specs.Numbers.{allowed, byPriority, isBinary, isSimple, classMaximum, allowedCount};
 ghost use Rattle.rules.specs.Machine.{Tables, isTask, urgency, mostUrgent};
 ghost use Rattle.rules.specs.Semaphore.{waitOf};
 
@@ -86,6 +86,7 @@ pub enum Call {
         name: u32,
         count: u32,
         attributes: u32,
+        maximum: u32,
     },
     Ident {
         name: u32,
@@ -184,6 +185,32 @@ pub fn is_simple(attributes: u32) -> bool
         return true;
     }
     attributes == 36
+}
+
+// The greatest maximum of a class: that of both binary classes is 1.
+pub fn class_maximum(attributes: u32) -> u32
+    ensures { λ r. ⌜ r ≡ classMaximum attributes ⌝ }
+{
+    if is_binary(attributes) {
+        return 1;
+    }
+    if is_simple(attributes) {
+        return 1;
+    }
+    MAX_NUMBER
+}
+
+// Whether the maximum is one create allows, and the count at most that.
+pub fn is_count_allowed(count: u32, attributes: u32, maximum: u32) -> bool
+    ensures { λ r. ⌜ r ≡ allowedCount count attributes maximum ⌝ }
+{
+    if maximum == 0 {
+        return false;
+    }
+    if class_maximum(attributes) < maximum {
+        return false;
+    }
+    count <= maximum
 }
 
 // A number above every priority.

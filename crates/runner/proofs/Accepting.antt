@@ -174,11 +174,11 @@ module _ (ns : List ℕ) (h : Words ns) where
   abbrev n : ℕ → ℕ
   n k = getD ns k 0
 
-  call-fits : (kind : ℕ) → callFits (callOf kind (n 1) (n 2) (n 3) (n 4)) ≡ true
+  call-fits : (kind : ℕ) → callFits (callOf kind (n 1) (n 2) (n 3) (n 4) (n 5)) ≡ true
   unfolding callOf
   call-fits kind =
       choose-cases P (eqb kind 2) _ _ (λ e. word 1)
-      (λ e. choose-cases P (eqb kind 3) _ _ (λ e. both-and (word 1) (both-and (word 2) (both-and (word 3) (word 4))))
+      (λ e. choose-cases P (eqb kind 3) _ _ (λ e. both-and (word 1) (both-and (word 2) (both-and (word 3) (both-and (word 4) (word 5)))))
       (λ e. choose-cases P (eqb kind 4) _ _ (λ e. word 1)
       (λ e. choose-cases P (eqb kind 5) _ _ (λ e. both-and (word 1) (word 2))
       (λ e. choose-cases P (eqb kind 6) _ _ (λ e. both-and (word 1) (both-and (word 2) (wait-fits (n 3) (n 4) (omega (arith, h 4)))))

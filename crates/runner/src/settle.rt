@@ -92,6 +92,7 @@ fn obtainer_of(call: Call) -> u32
             name,
             count,
             attributes,
+            maximum,
         } => 0,
         Call::Ident { name } => 0,
         Call::Delete { caller, id } => 0,

@@ -10,10 +10,10 @@ use lib.ListN.{length, getD, set}
 use lib.Seq.{getD-set-same, getD-set-other}
 use borrow.Author.Tests.{eqb-true, eqb-false, eq-eqb, ne-eqb, leb-true, le-ltb}
 use Rattle.laws.specs.Choose.{choose, _and_, isnt}
-use Rattle.laws.proofs.Choose.{choose-cases, and-both, both-and, never, if-yes, if-no, false-isnt, or-first, isnt-false}
+use Rattle.laws.proofs.Choose.{choose-cases, and-both, both-and, never, if-yes, if-no, false-isnt, isnt-false}
 use Rattle.rules.specs.declared.Task.{Task}
 use Rattle.rules.specs.declared.Wait.{Wait}
-use Rattle.rules.specs.Numbers.{isBinary, maximum, maxNumber}
+use Rattle.rules.specs.Numbers.{isBinary, maxNumber}
 use Rattle.rules.specs.Machine.{Slot, Tables, noTask, freeSlot, slotOf, putSlot, waits, isLive, idOf, names, slotNamed, urgency}
 use Rattle.rules.specs.Agreement.{occurs}
 use Rattle.rules.specs.Semaphore.{handed, ownedBy, polls, placeOf, Taken, takeStep, Given, giveStep, passStep}
@@ -179,9 +179,9 @@ module _ (t : Tables) (f : Facts t) (c j : ℕ) (l : isLive (nthSlot t j) ≡ tr
       (λ e. choose-cases Gives (isBinary (nthSlot t j .attributes) and leb 2 (nthSlot t j .nest)) _ _
       (λ n. let two : 2 ≤ nthSlot t j .nest = leb-true _ _ (and-both _ _ n .1) in absurd (omega (arith, holds .nest)))
       (λ n. choose-cases Gives (leb 1 (length (nthSlot t j .queue))) _ _ (λ q. handed-on (getD (nthSlot t j .queue) 0 0) refl (leb-true _ _ q))
-      (λ q. choose-cases Gives (eqb (nthSlot t j .count) (maximum (nthSlot t j .attributes))) _ _
-      (λ m. let top : maximum (nthSlot t j .attributes) ≡ 1 = if-yes _ _ (or-first _ _ b) in let full : nthSlot t j .count ≡ maximum
-      (nthSlot t j .attributes) = eqb-true _ _ m in absurd (omega (arith, held .count)))
+      (λ q. choose-cases Gives (eqb (nthSlot t j .count) (nthSlot t j .maximum)) _ _
+      (λ m. let full : nthSlot t j .count ≡ nthSlot t j .maximum = eqb-true _ _ m in absurd
+      (omega (arith, held .count, f .slots j .whenLive l .maximum .least)))
       (λ m. (refl, subst (λ (z : Tables). Released t z c j) (sym (if-yes _ _ refl)) (record { ready = ready; left = owner-left _ (λ o. omega arith) }))))))
     where
       own : ownedBy (nthSlot t j) (suc c) ≡ true

@@ -29,7 +29,7 @@ past t w events =
 
 -- three tasks; task 3 has made two semaphores of these attributes, 65537 and 65538
 abbrev made : ℕ → Tables
-made attributes = tablesOf (startWith 2 (10 ∷ 20 ∷ 30 ∷ []) ∷ ask (Create 3 77 1 attributes) ∷ ask (Create 3 78 1 attributes) ∷ [])
+made attributes = tablesOf (startWith 2 (10 ∷ 20 ∷ 30 ∷ []) ∷ ask (Create 3 77 1 attributes 1) ∷ ask (Create 3 78 1 attributes 1) ∷ [])
 
 abbrev section : ℕ → List Step → Section
 section id steps = record { id = id; options = 0; timeout = 0; steps = steps }

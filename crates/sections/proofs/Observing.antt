@@ -16,7 +16,7 @@ use Rattle.rules.specs.declared.Call.{Call}
 use Rattle.rules.specs.declared.Call.the-variants.{Start, Create, Ident, Delete, Obtain, Release, Flush, Tick}
 use Rattle.rules.specs.declared.Task.{Task}
 use Rattle.rules.specs.declared.Wait.{Wait}
-use Rattle.rules.specs.Numbers.{isBinary, maximum, allowed, isSimple}
+use Rattle.rules.specs.Numbers.{isBinary, allowed, allowedCount}
 use Rattle.rules.specs.Machine.{Slot, Tables, noTask, freeSlot, taskOf, slotOf, putSlot, waits, isLive, idOf, names, slotNamed, urgency}
 use Rattle.rules.specs.Agreement.{occurs}
 use Rattle.rules.specs.Semaphore.{handed, ownedBy, placeOf, Taken, takeStep, Given, giveStep, passStep, flushStep}
@@ -49,21 +49,21 @@ module _ (t : Tables) (f : Facts t) (i : ℕ) where
       observed-unless t i 0 (startRefusal t slots priorities) (answered 0 0 (started slots priorities))
       (λ e. absurd (omega (arith, sym (if-yes {A = ℕ} 14 _ (le-leb 1 (length (t .tasks)) h)) ∙ e)))
 
-  create-observed : (caller name count attributes : ℕ) → Observed t (create t caller name count attributes .tables) i 0
+  create-observed : (caller name count attributes maximum : ℕ) → Observed t (create t caller name count attributes maximum .tables) i 0
   unfolding create createRefusal
-  create-observed caller name count attributes =
-      observed-unless t i 0 (createRefusal t caller name count attributes) (answered 0 _ (putSlot t (openSlot t) (made (openSlot t))))
+  create-observed caller name count attributes maximum =
+      observed-unless t i 0 (createRefusal t caller name count attributes maximum) (answered 0 _ (putSlot t (openSlot t) (made (openSlot t))))
       (λ e.
       let who = task-only t caller _ e in
       let named = mustnt (eqb name 0) 3 _ (omega arith) (who .1) in
       let right = must (allowed attributes) _ 11 (omega arith) (named .1) in
-      let small = mustnt ((isBinary attributes or isSimple attributes) and leb 2 count) 10 _ (omega arith) (right .1) in
-      let room = mustnt (eqb (openSlot t) 0) 5 0 (omega arith) (small .1) in
+      let numbers = must (allowedCount count attributes maximum) _ 10 (omega arith) (right .1) in
+      let room = mustnt (eqb (openSlot t) 0) 5 0 (omega arith) (numbers .1) in
       let some : openSlot t ≡ 0 → ⊥ = eqb-false _ _ (room .0) in
       opened (openSlot t) (first-free (t .slots) 0 (omega arith)))
     where
       made : ℕ → Slot
-      made n = newSemaphore (slotOf t n .generation) caller name count attributes
+      made n = newSemaphore (slotOf t n .generation) caller name count attributes maximum
 
       opened : (n : ℕ) → Open (t .slots) 0 n → Observed t (putSlot t n (made n)) i 0
       opened n o =
@@ -297,7 +297,7 @@ module _ (t : Tables) (f : Facts t) (i : ℕ) where
         (λ mine. choose-cases Sees (isBinary (nthSlot t j .attributes) and leb 2 (nthSlot t j .nest)) _ _
         (λ e. unwoken _ (λ H. record { attributes = λ a m g. refl; keeps = λ a b o. absurd (not-mine mine b o); gains = λ a b m o. inl o }))
         (λ e. choose-cases Sees (leb 1 (length (nthSlot t j .queue))) _ _ (λ q. handed-on mine (getD (nthSlot t j .queue) 0 0) refl (leb-true _ _ q))
-        (λ q. choose-cases Sees (eqb (nthSlot t j .count) (maximum (nthSlot t j .attributes))) _ _ (λ m e. absurd (omega arith))
+        (λ q. choose-cases Sees (eqb (nthSlot t j .count) (nthSlot t j .maximum)) _ _ (λ m e. absurd (omega arith))
         (λ m. unwoken _ (λ H. record { attributes = λ a m g. refl; keeps = λ a b o. absurd (not-mine mine b o); gains = λ a b m o. absurd (omega arith) })))))
 
   release-observed : (c id : ℕ) → suc i ≢ c → Observed t (release t c id .tables) i (giveStep (slotOf t (slotNamed t id)) c .woken)
@@ -327,7 +327,7 @@ module _ (t : Tables) (f : Facts t) (i : ℕ) where
       → Observed t (perform t call priorities .tables) i (handedTo t call)
   unfolding perform
   observed (Start slots) priorities h n = start-observed slots priorities h
-  observed (Create caller name count attributes) priorities h n = create-observed caller name count attributes
+  observed (Create caller name count attributes maximum) priorities h n = create-observed caller name count attributes maximum
   observed (Ident name) priorities h n = ident-observed name
   observed (Delete caller id) priorities h n = delete-observed caller id
   observed (Obtain caller id wait) priorities h n = obtain-observed caller n id wait

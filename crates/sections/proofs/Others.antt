@@ -48,7 +48,7 @@ watched-same s s′ l g a o n =
 -- the task that a release hands its semaphore to, or 0
 abbrev pub handedTo : Tables → Call → ℕ
 handedTo t (Start slots) = 0
-handedTo t (Create caller name count attributes) = 0
+handedTo t (Create caller name count attributes maximum) = 0
 handedTo t (Ident name) = 0
 handedTo t (Delete caller id) = 0
 handedTo t (Obtain caller id wait) = 0

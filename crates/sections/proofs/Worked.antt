@@ -49,7 +49,7 @@ granted q k = record { task = q; section = k }
 
 -- three tasks, of which 3 made a binary semaphore, 65537
 abbrev made : Tables
-made = tablesOf (startWith 2 (10 ∷ 20 ∷ 30 ∷ []) ∷ ask (Create 3 77 1 20) ∷ [])
+made = tablesOf (startWith 2 (10 ∷ 20 ∷ 30 ∷ []) ∷ ask (Create 3 77 1 20 1) ∷ [])
 
 -- one more in cell 0, with local 1 for the one
 abbrev counting : ℕ → Section
@@ -102,7 +102,7 @@ timed-out = refl
 
 -- the semaphore is deleted, its slot goes to a counting semaphore with room for two, and neither writer walks in
 no-address : seen made (handed (script 1 (counting 0 ∷ []) ∷ script 2 (counting 0 ∷ []) ∷ []))
-    (Other (ask (Delete 3 65537)) ∷ Other (ask (Create 3 78 2 0)) ∷ turns 1 ++ turns 2)
+    (Other (ask (Delete 3 65537)) ∷ Other (ask (Create 3 78 2 0 4294967295)) ∷ turns 1 ++ turns 2)
     ≡ record {
       answer = says 0 0 1;
       cells = 40 ∷ [];
@@ -118,11 +118,12 @@ no-address = refl
 
 -- refused before anything is run: a section on a counting semaphore, on an owned one, two scripts for one task; a turn of a task without a script;
 -- tables that do not agree
-refused-11 : run (tablesOf (startWith 2 (10 ∷ []) ∷ ask (Create 1 77 2 0) ∷ [])) (handed (script 1 (counting 0 ∷ []) ∷ [])) (Turn 1 ∷ []) .answer ≡ says 11 0 1
+refused-11 : run (tablesOf (startWith 2 (10 ∷ []) ∷ ask (Create 1 77 2 0 4294967295) ∷ [])) (handed (script 1 (counting 0 ∷ []) ∷ []))
+    (Turn 1 ∷ []) .answer ≡ says 11 0 1
 unfolding seen
 refused-11 = refl
 
-refused-owned : run (tablesOf (startWith 2 (10 ∷ []) ∷ ask (Create 1 77 0 16) ∷ [])) (handed (script 1 (counting 0 ∷ []) ∷ []))
+refused-owned : run (tablesOf (startWith 2 (10 ∷ []) ∷ ask (Create 1 77 0 16 1) ∷ [])) (handed (script 1 (counting 0 ∷ []) ∷ []))
     (Turn 1 ∷ []) .answer ≡ says 11 0 1
 unfolding seen
 refused-owned = refl

@@ -49,7 +49,7 @@ moved s i p memory = record { tables = s .tables; memory = memory; places = set 
 -- the caller, or 0: start, ident and tick have none
 abbrev pub callerOf : Call → ℕ
 callerOf (Start slots) = 0
-callerOf (Create caller name count attributes) = caller
+callerOf (Create caller name count attributes maximum) = caller
 callerOf (Ident name) = 0
 callerOf (Delete caller id) = caller
 callerOf (Obtain caller id wait) = caller

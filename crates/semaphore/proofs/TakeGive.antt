@@ -13,7 +13,7 @@ use Rattle.laws.specs.Rows.{fit}
 use Rattle.laws.proofs.Fit.{length-fit}
 use Rattle.rules.specs.declared.Wait.{Wait}
 use Rattle.rules.specs.Machine.{Slot}
-use Rattle.rules.specs.Numbers.{isBinary, maximum}
+use Rattle.rules.specs.Numbers.{isBinary}
 use Rattle.rules.specs.Semaphore.{insertAt, requeued, ownedBy, polls, takeStep, passStep, giveStep}
 use Rattle.rules.specs.Semaphore as rules
 use Rattle.rules.specs.Calls.{newSemaphore}
@@ -178,11 +178,11 @@ module _ (s : Slot) where
     pass-handed b = if-le _ _ _ _ some ∙ passes (if-no (getD (s .queue) 0 0) (s .owner) b) (if-no 1 (s .nest) b)
 
   module _ (none : length (s .queue) < 1) where
-    pub pass-full : s .count ≡ maximum (s .attributes) → passStep s ≡ record { status = 13; slot = s; woken = 0 }
+    pub pass-full : s .count ≡ s .maximum → passStep s ≡ record { status = 13; slot = s; woken = 0 }
     unfolding passStep
     pass-full h = if-not-le _ _ _ _ none ∙ if-eq _ _ _ _ h
 
-    pub pass-raised : (s .count ≡ maximum (s .attributes) → ⊥)
+    pub pass-raised : (s .count ≡ s .maximum → ⊥)
         → passStep s ≡ record { status = 0; slot = rules.counted s (s .count + 1) 0 0 (s .queue); woken = 0 }
     unfolding passStep
     pass-raised h = if-not-le _ _ _ _ none ∙ if-ne _ _ _ _ h
@@ -212,20 +212,32 @@ module _ (s : Slot) where
 
 -- ---- a new semaphore
 
-module _ (generation caller name count attributes : ℕ) where
+module _ (generation caller name count attributes maximum : ℕ) where
   -- with its owner and nest
   abbrev pub newSlot : ℕ → ℕ → Slot
   newSlot owner nest =
-      record { generation = generation + 1; live = 1; name = name; attributes = attributes; count = count; owner = owner; nest = nest; queue = [] }
+      record {
+        generation = generation + 1;
+        live = 1;
+        name = name;
+        attributes = attributes;
+        count = count;
+        owner = owner;
+        nest = nest;
+        maximum = maximum;
+        queue = [];
+      }
 
-  stands-new : (owner nest : ℕ) → newSlot owner nest ≡ newSemaphore generation caller name count attributes
-      → Stands (recordOf (newSlot owner nest)) (newSemaphore generation caller name count attributes)
+  stands-new : (owner nest : ℕ) → newSlot owner nest ≡ newSemaphore generation caller name count attributes maximum
+      → Stands (recordOf (newSlot owner nest)) (newSemaphore generation caller name count attributes maximum)
   stands-new owner nest e = record { same = e; padded = record { few = omega arith; filled = refl } }
 
-  pub new-unowned : (isBinary attributes and eqb count 0) ≡ false → Stands (recordOf (newSlot 0 0)) (newSemaphore generation caller name count attributes)
+  pub new-unowned : (isBinary attributes and eqb count 0) ≡ false
+      → Stands (recordOf (newSlot 0 0)) (newSemaphore generation caller name count attributes maximum)
   unfolding newSemaphore
   new-unowned e = stands-new 0 0 (sym λ i. newSlot (if-no caller 0 e i) (if-no 1 0 e i))
 
-  pub new-owned : (isBinary attributes and eqb count 0) ≡ true → Stands (recordOf (newSlot caller 1)) (newSemaphore generation caller name count attributes)
+  pub new-owned : (isBinary attributes and eqb count 0) ≡ true
+      → Stands (recordOf (newSlot caller 1)) (newSemaphore generation caller name count attributes maximum)
   unfolding newSemaphore
   new-owned e = stands-new caller 1 (sym λ i. newSlot (if-yes caller 0 e i) (if-yes 1 0 e i))

@@ -8,7 +8,7 @@ use lib.ListN.{length, getD, take}
 use Rattle.laws.specs.Choose.{choose}
 use Rattle.laws.specs.Rows.{fit}
 use Rattle.rules.specs.Machine.{Slot}
-use Rattle.rules.specs.Numbers.{successful, unsatisfied, maximum}
+use Rattle.rules.specs.Numbers.{successful, unsatisfied}
 use Rattle.rules.specs.Semaphore as rules
 use Rattle.semaphore.specs.declared.Semaphore.{Semaphore}
 use Rattle.semaphore.specs.declared.Kept.{Kept}
@@ -26,6 +26,7 @@ slotFrom s =
       count = s .count;
       owner = s .owner;
       nest = s .nest;
+      maximum = s .maximum;
       queue = take (s .waiters) (s .queue);
     }
 
@@ -40,6 +41,7 @@ recordOf s =
       count = s .count;
       owner = s .owner;
       nest = s .nest;
+      maximum = s .maximum;
       waiters = length (s .queue);
       queue = fit 32 0 (s .queue);
     }
@@ -80,6 +82,7 @@ withCount s count owner nest =
       count = count;
       owner = owner;
       nest = nest;
+      maximum = s .maximum;
       waiters = s .waiters;
       queue = s .queue;
     }
@@ -94,6 +97,7 @@ withQueue s waiters queue =
       count = s .count;
       owner = s .owner;
       nest = s .nest;
+      maximum = s .maximum;
       waiters = waiters;
       queue = queue;
     }

@@ -8,7 +8,7 @@ ghost use Rattle.laws.specs.Rows.{fit};
 ghost use Rattle.rules.specs.Machine.{freeSlot};
 ghost use Rattle.rules.specs.Semaphore.{insertAt, ownedBy, polls, takeStep, passStep, giveStep, flushStep};
 ghost use Rattle.rules.specs.Calls.{newSemaphore};
-ghost use Rattle.rules.specs.Numbers.{isBinary, maximum};
+ghost use Rattle.rules.specs.Numbers.{isBinary};
 ghost use Rattle.semaphore.specs.Record.{slotFrom, recordOf, withCount, withQueue, Padded, TasksOnly};
 ghost use Rattle.semaphore.specs.Record.{Stands, TakenIs, GivenIs, FlushedIs, keep, KeptIs, slotKeeping};
 
@@ -21,6 +21,8 @@ pub struct Semaphore {
     pub count: u32,
     pub owner: u32,
     pub nest: u32,
+    // the greatest count, 0 while free
+    pub maximum: u32,
     // how many tasks wait; the rest of the queue is 0
     pub waiters: u32,
     pub queue: [u32; 32],
@@ -59,19 +61,6 @@ fn polls(wait: Wait) -> bool
         Wait::Forever => false,
         Wait::Ticks(_) => false,
     }
-}
-
-// What a release does not go beyond.
-fn maximum(attributes: u32) -> u32
-    ensures { λ r. ⌜ r ≡ maximum attributes ⌝ }
-{
-    if rules::is_binary(attributes) {
-        return 1;
-    }
-    if rules::is_simple(attributes) {
-        return 1;
-    }
-    rules::MAX_NUMBER
 }
 
 // The queue with task q at `place`, and those behind it one place further.
@@ -140,15 +129,23 @@ pub fn free(generation: u32) -> Semaphore
         count: 0,
         owner: 0,
         nest: 0,
+        maximum: 0,
         waiters: 0,
         queue: [0; 32],
     }
 }
 
 // A new semaphore in a slot of that generation.
-pub fn created(generation: u32, caller: u32, name: u32, count: u32, attributes: u32) -> Semaphore
+pub fn created(
+    generation: u32,
+    caller: u32,
+    name: u32,
+    count: u32,
+    attributes: u32,
+    maximum: u32,
+) -> Semaphore
     requires { ⌜ generation < 65535 ⌝ }
-    ensures { λ r. ⌜ Stands r (newSemaphore generation caller name count attributes) ⌝ }
+    ensures { λ r. ⌜ Stands r (newSemaphore generation caller name count attributes maximum) ⌝ }
 {
     let made = Semaphore {
         generation: generation + 1,
@@ -158,6 +155,7 @@ pub fn created(generation: u32, caller: u32, name: u32, count: u32, attributes: 
         count: count,
         owner: 0,
         nest: 0,
+        maximum: maximum,
         waiters: 0,
         queue: [0; 32],
     };
@@ -255,7 +253,7 @@ impl Semaphore {
 
     // What a release does to a semaphore that the caller may give and does not hold twice.
     fn passed_on(self) -> Given
-        requires { ⌜ Padded self × (self .count ≤ maximum (self .attributes)) ⌝ }
+        requires { ⌜ Padded self × (self .count ≤ self .maximum) ⌝ }
         ensures { λ r. ⌜ GivenIs r (passStep (slotFrom self)) ⌝ }
     {
         if self.waiters >= 1 {
@@ -277,8 +275,7 @@ impl Semaphore {
                 semaphore: shorter,
             };
         }
-        let most = maximum(self.attributes);
-        if self.count == most {
+        if self.count == self.maximum {
             return Given {
                 status: rules::UNSATISFIED,
                 woken: 0,
@@ -295,7 +292,7 @@ impl Semaphore {
 
     // One semaphore's step of a release.
     pub fn give(self, caller: u32) -> Given
-        requires { ⌜ Padded self × (self .count ≤ maximum (self .attributes)) ⌝ }
+        requires { ⌜ Padded self × (self .count ≤ self .maximum) ⌝ }
         ensures { λ r. ⌜ GivenIs r (giveStep (slotFrom self) caller) ⌝ }
     {
         if !rules::is_binary(self.attributes) {

@@ -43,7 +43,7 @@ request-fits word ns h =
     let n : (i : ℕ) → leb (getD ns i 0) maxNumber ≡ true = λ i. le-leb (getD ns i 0) maxNumber (h i) in
     let two = both-and (n 0) (n 1) in
     either _ _ _ (either _ _ _ (n 0) tt)
-    (either _ _ _ (either _ _ _ (both-and (n 0) (both-and (n 1) (both-and (n 2) (n 3)))) tt)
+    (either _ _ _ (either _ _ _ (both-and (n 0) (both-and (n 1) (both-and (n 2) (both-and (n 3) (n 4))))) tt)
     (either _ _ _ (either _ _ _ (n 0) tt)
     (either _ _ _ (either _ _ _ two tt)
     (either _ _ _ (either _ _ _ (both-and (n 0) (both-and (n 1) (wait-fits (getD ns 2 0) (getD ns 3 0) (h 3)))) tt)

@@ -15,11 +15,12 @@ use Rattle.calls.proofs.Agreeing.{tasks-few, slots-few, ready-few, queue-few}
 use Rattle.line.specs.Print.{decimal}
 use Rattle.report.proofs.Room.{digits, spaced-room, rows-room}
 use Rattle.shown.specs.Shown.{newline, tasksText, countsLine, endingText, ticksText, waitText, stateText, taskLine, taskLines, sequenceLine}
-use Rattle.shown.specs.Shown.{classText, orderText, ownerText, kindText, holdersText, semaphoreLine, slotLine, slotLines, shownText, showRoom}
+use Rattle.shown.specs.Shown.{classText, orderText, maximumText, ownerText, kindText, holdersText, semaphoreLine, slotLine, slotLines}
+use Rattle.shown.specs.Shown.{shownText, showRoom}
 use Rattle.shown.specs.Shown.{tasksPhrase, slotsPhrase, nextPhrase, taskPhrase, priorityPhrase, readyPhrase, timedOutPhrase, deletedPhrase}
 use Rattle.shown.specs.Shown.{flushedPhrase, waitsPhrase, idPhrase, closePhrase, forEverPhrase, ticksPhrase, sequencePhrase, nobodyPhrase}
 use Rattle.shown.specs.Shown.{semaphorePhrase, namePhrase, binaryPhrase, simplePhrase, countingPhrase, fifoPhrase, orderPhrase, noOwnerPhrase}
-use Rattle.shown.specs.Shown.{ownerPhrase, nestPhrase, waitingPhrase}
+use Rattle.shown.specs.Shown.{ownerPhrase, nestPhrase, maximumPhrase, waitingPhrase}
 
 infixl 20 _behind_
 -- a text of at most k bytes
@@ -104,22 +105,29 @@ owner-room s =
     ((phrase ownerPhrase 8 (omega arith) behind number _) behind (phrase nestPhrase 7 (omega arith) behind number _)))
     (phrase [] 35 (omega arith))
 
-kind-room : (n : ℕ) (s : Slot) → Short 80 (kindText n s)
+maximum-room : (s : Slot) → Short 20 (maximumText s)
+unfolding maximumText
+maximum-room s =
+    either (isBinary (s .attributes)) (phrase [] 20 (omega arith))
+    (either (isSimple (s .attributes)) (phrase [] 20 (omega arith)) (phrase maximumPhrase 10 (omega arith) behind number _))
+
+kind-room : (n : ℕ) (s : Slot) → Short 100 (kindText n s)
 unfolding kindText
 kind-room n s =
     (phrase semaphorePhrase 10 (omega arith) behind number _) behind (phrase namePhrase 7 (omega arith) behind number _)
     behind class-room (s .attributes)
     behind order-room (s .attributes)
     behind number (s .count)
+    behind maximum-room s
 
 holders-room : (s : Slot) → length (s .queue) ≤ 32 → Short 398 (holdersText s)
 unfolding holdersText
 holders-room s h = owner-room s behind phrase waitingPhrase 10 (omega arith) behind tasks-room (s .queue) h behind phrase newline 1 (omega arith)
 
-slot-room : (t : Tables) → Agrees t → (n : ℕ) → Short 478 (slotLine t n)
+slot-room : (t : Tables) → Agrees t → (n : ℕ) → Short 498 (slotLine t n)
 unfolding slotLine semaphoreLine
 slot-room t a n =
-    either (isLive (slotOf t n)) (kind-room n (slotOf t n) behind holders-room (slotOf t n) (queue-few t a (pred n))) (phrase [] 478 (omega arith))
+    either (isLive (slotOf t n)) (kind-room n (slotOf t n) behind holders-room (slotOf t n) (queue-few t a (pred n))) (phrase [] 498 (omega arith))
 
 -- ---- all of it
 
@@ -132,9 +140,9 @@ module _ (t : Tables) (a : Agrees t) where
   unfolding sequenceLine
   sequence-room = phrase sequencePhrase 25 (omega arith) behind tasks-room (t .ready) (ready-few t a) behind phrase newline 1 (omega arith)
 
-  slot-lines : Short (478 * length (t .slots)) (slotLines t)
+  slot-lines : Short (498 * length (t .slots)) (slotLines t)
   unfolding slotLines
-  slot-lines = record { most = rows-room 478 (length (t .slots)) (λ i. slotLine t (suc i)) (λ i. slot-room t a (suc i) .most) }
+  slot-lines = record { most = rows-room 498 (length (t .slots)) (λ i. slotLine t (suc i)) (λ i. slot-room t a (suc i) .most) }
 
   pub shown-room : length (shownText t) ≤ showRoom
   unfolding shownText

@@ -9,7 +9,7 @@ use Rattle.rules.specs.Machine.{Tables, freeSlot, unstarted, mostUrgent, next}
 use Rattle.line.specs.Print.{digitsBefore, decimal}
 use Rattle.report.specs.Report.{spaced}
 use Rattle.shown.specs.Shown.{tasksText, countsLine, endingText, ticksText, waitText, stateText, taskLine, taskLines, sequenceLine, classText}
-use Rattle.shown.specs.Shown.{orderText, ownerText, kindText, holdersText, semaphoreLine, slotLine, slotLines, shownText}
+use Rattle.shown.specs.Shown.{orderText, maximumText, ownerText, kindText, holdersText, semaphoreLine, slotLine, slotLines, shownText}
 
 abbrev task : (priority answer awaited ticks : ℕ) → Task
 task priority answer awaited ticks = record { priority = priority; answer = answer; awaited = awaited; ticks = ticks }
@@ -19,7 +19,7 @@ abbrev held : Tables
 held =
     record {
       tasks = task 3 0 0 0 ∷ task 5 100 65537 10 ∷ [];
-      slots = record { generation = 1; live = 1; name = 7; attributes = 16; count = 0; owner = 1; nest = 2; queue = 2 ∷ [] } ∷ [];
+      slots = record { generation = 1; live = 1; name = 7; attributes = 16; count = 0; owner = 1; nest = 2; maximum = 1; queue = 2 ∷ [] } ∷ [];
       ready = 1 ∷ [];
     }
 
@@ -48,7 +48,7 @@ abbrev waited : Tables
 waited =
     record {
       tasks = task 1 100 131074 0 ∷ task 4 6 0 0 ∷ [];
-      slots = freeSlot 1 ∷ record { generation = 2; live = 1; name = 9; attributes = 4; count = 0; owner = 0; nest = 0; queue = 1 ∷ [] } ∷ [];
+      slots = freeSlot 1 ∷ record { generation = 2; live = 1; name = 9; attributes = 4; count = 0; owner = 0; nest = 0; maximum = 12; queue = 1 ∷ [] } ∷ [];
       ready = 2 ∷ [];
     }
 
@@ -67,10 +67,10 @@ waitedText =
     -- ready, the longest first: 2
     ++ (114 ∷ 101 ∷ 97 ∷ 100 ∷ 121 ∷ 44 ∷ 32 ∷ 116 ∷ 104 ∷ 101 ∷ 32 ∷ 108 ∷ 111 ∷ 110 ∷ 103 ∷ 101 ∷ 115 ∷ 116 ∷ 32 ∷ 102 ∷ 105 ∷ 114 ∷ 115 ∷ 116 ∷ 58 ∷ 32
     ∷ 50 ∷ 10 ∷ [])
-    -- semaphore 131074, name 9, counting, PRIORITY: count 0, waiting: 1
+    -- semaphore 131074, name 9, counting, PRIORITY: count 0, maximum 12, waiting: 1
     ++ (115 ∷ 101 ∷ 109 ∷ 97 ∷ 112 ∷ 104 ∷ 111 ∷ 114 ∷ 101 ∷ 32 ∷ 49 ∷ 51 ∷ 49 ∷ 48 ∷ 55 ∷ 52 ∷ 44 ∷ 32 ∷ 110 ∷ 97 ∷ 109 ∷ 101 ∷ 32 ∷ 57 ∷ 44 ∷ 32 ∷ 99 ∷
     111 ∷ 117 ∷ 110 ∷ 116 ∷ 105 ∷ 110 ∷ 103 ∷ 44 ∷ 32 ∷ 80 ∷ 82 ∷ 73 ∷ 79 ∷ 82 ∷ 73 ∷ 84 ∷ 89 ∷ 58 ∷ 32 ∷ 99 ∷ 111 ∷ 117 ∷ 110 ∷ 116 ∷ 32 ∷ 48 ∷ 44 ∷ 32 ∷
-    119 ∷ 97 ∷ 105 ∷ 116 ∷ 105 ∷ 110 ∷ 103 ∷ 58 ∷ 32 ∷ 49 ∷ 10 ∷ [])
+    109 ∷ 97 ∷ 120 ∷ 105 ∷ 109 ∷ 117 ∷ 109 ∷ 32 ∷ 49 ∷ 50 ∷ 44 ∷ 32 ∷ 119 ∷ 97 ∷ 105 ∷ 116 ∷ 105 ∷ 110 ∷ 103 ∷ 58 ∷ 32 ∷ 49 ∷ 10 ∷ [])
 
 abbrev unstartedText : List ℕ
 unstartedText =
@@ -83,5 +83,5 @@ unstartedText =
 
 worked : (shownText held ≡ heldText) × (shownText waited ≡ waitedText) × (shownText unstarted ≡ unstartedText)
 unfolding shownText countsLine taskLines taskLine stateText waitText endingText ticksText sequenceLine slotLines slotLine
-    semaphoreLine kindText holdersText classText orderText ownerText tasksText spaced digitsBefore decimal mostUrgent next choose tabulate rows
+    semaphoreLine kindText holdersText classText orderText maximumText ownerText tasksText spaced digitsBefore decimal mostUrgent next choose tabulate rows
 worked = (refl, refl, refl)

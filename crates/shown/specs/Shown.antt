@@ -125,6 +125,10 @@ ownerPhrase = 44 ∷ 32 ∷ 111 ∷ 119 ∷ 110 ∷ 101 ∷ 114 ∷ 32 ∷ []
 abbrev pub nestPhrase : List ℕ
 nestPhrase = 44 ∷ 32 ∷ 110 ∷ 101 ∷ 115 ∷ 116 ∷ 32 ∷ []
 
+-- ", maximum "
+abbrev pub maximumPhrase : List ℕ
+maximumPhrase = 44 ∷ 32 ∷ 109 ∷ 97 ∷ 120 ∷ 105 ∷ 109 ∷ 117 ∷ 109 ∷ 32 ∷ []
+
 -- ", waiting:"
 abbrev pub waitingPhrase : List ℕ
 waitingPhrase = 44 ∷ 32 ∷ 119 ∷ 97 ∷ 105 ∷ 116 ∷ 105 ∷ 110 ∷ 103 ∷ 58 ∷ []
@@ -181,16 +185,22 @@ classText a = choose (isBinary a) binaryPhrase (choose (isSimple a) simplePhrase
 unfoldable pub orderText : ℕ → List ℕ
 orderText a = choose (byPriority a) orderPhrase fifoPhrase
 
+-- of a counting semaphore alone: that of both binary classes is 1
+unfoldable pub maximumText : Slot → List ℕ
+maximumText s =
+    choose (isBinary (s .attributes)) [] (choose (isSimple (s .attributes)) [] (numbered maximumPhrase (s .maximum)))
+
 -- of a binary semaphore alone
 unfoldable pub ownerText : Slot → List ℕ
 ownerText s =
     choose (isBinary (s .attributes))
     (choose (eqb (s .owner) 0) noOwnerPhrase (numbered ownerPhrase (s .owner) ++ numbered nestPhrase (s .nest))) []
 
--- its identifier, its name, its class, its order and its count
+-- its identifier, its name, its class, its order, its count and its maximum
 unfoldable pub kindText : ℕ → Slot → List ℕ
 kindText n s =
-    numbered semaphorePhrase (idOf n s) ++ numbered namePhrase (s .name) ++ classText (s .attributes) ++ orderText (s .attributes) ++ decimal (s .count)
+    numbered semaphorePhrase (idOf n s) ++ numbered namePhrase (s .name) ++ classText (s .attributes) ++ orderText (s .attributes)
+    ++ decimal (s .count) ++ maximumText s
 
 -- who owns it, and who waits on it
 unfoldable pub holdersText : Slot → List ℕ
@@ -213,4 +223,4 @@ shownText t = countsLine t ++ taskLines t ++ sequenceLine t ++ slotLines t
 
 -- bytes that are enough for any machine that agrees: the counts take 57 at most, a task 99, the sequence 378 and a semaphore 478
 abbrev pub showRoom : ℕ
-showRoom = 34816
+showRoom = 36864

@@ -6,7 +6,7 @@ ghost use Rattle.words.specs.Words.{wordAt};
 ghost use Rattle.semaphore.specs.Record.{slotFrom};
 ghost use Rattle.tables.specs.Layout.{modelOf};
 ghost use Rattle.calls.specs.Agreeing.{Agreeing};
-ghost use Rattle.shown.specs.Shown.{classText, orderText, ownerText, kindText, holdersText, slotLine, slotLines};
+ghost use Rattle.shown.specs.Shown.{classText, orderText, maximumText, ownerText, kindText, holdersText, slotLine, slotLines};
 ghost use Rattle.shown.specs.Puts.{Puts};
 
 fn put_class(out: &mut [u8], at: usize, attributes: u32) -> usize
@@ -30,6 +30,19 @@ fn put_order(out: &mut [u8], at: usize, attributes: u32) -> usize
     writing::put(out, at, b", FIFO: count ")
 }
 
+// Of a counting semaphore alone: the maximum of both binary classes is 1.
+fn put_maximum(out: &mut [u8], at: usize, s: Semaphore) -> usize
+    ensures { λ r. ⌜ Puts at (maximumText (slotFrom s)) (now (out .entry)) (now (out .exit)) r ⌝ }
+{
+    if rules::is_binary(s.attributes) {
+        return at;
+    }
+    if rules::is_simple(s.attributes) {
+        return at;
+    }
+    writing::put_numbered(out, at, b", maximum ", s.maximum)
+}
+
 fn put_owner(out: &mut [u8], at: usize, s: Semaphore) -> usize
     ensures { λ r. ⌜ Puts at (ownerText (slotFrom s)) (now (out .entry)) (now (out .exit)) r ⌝ }
 {
@@ -43,7 +56,7 @@ fn put_owner(out: &mut [u8], at: usize, s: Semaphore) -> usize
     writing::put_numbered(out, nest_at, b", nest ", s.nest)
 }
 
-// The identifier, the name, the class, the order and the count of the semaphore in slot n, counted from 1.
+// The identifier, the name, the class, the order, the count and the maximum of the semaphore in slot n, counted from 1.
 fn put_kind(out: &mut [u8], at: usize, n: u32, s: Semaphore) -> usize
     requires { ⌜ (n ≤ 64) × (s .generation ≤ 65535) ⌝ }
     ensures { λ r. ⌜ Puts at (kindText n (slotFrom s)) (now (out .entry)) (now (out .exit)) r ⌝ }
@@ -53,7 +66,8 @@ fn put_kind(out: &mut [u8], at: usize, n: u32, s: Semaphore) -> usize
     let class_at = writing::put_numbered(out, name_at, b", name ", s.name);
     let order_at = put_class(out, class_at, s.attributes);
     let count_at = put_order(out, order_at, s.attributes);
-    writing::put_number(out, count_at, s.count)
+    let maximum_at = writing::put_number(out, count_at, s.count);
+    put_maximum(out, maximum_at, s)
 }
 
 // Who owns it, and who waits on it.

@@ -26,9 +26,9 @@ use Rattle.manager.specs.Runs.{replies}
 use Rattle.manager.proofs.Tested as entries
 use Rattle.manager.proofs.Runs.{runs, deleted-never-again-bytes}
 use Rattle.state.specs.File.{isStarted, stateFile}
-use Rattle.state.specs.Reading.{tablesIn, isState}
+use Rattle.state.specs.Reading.{tablesIn, isState, Gives}
 use Rattle.state.specs.Reply.{Reply, reply, saveReply, loaded, loadReply}
-use Rattle.state.proofs.Promises.{written-reads-back, written-is-state, state-is-written, state-started, states-exactly}
+use Rattle.state.proofs.Promises.{written-reads-back, written-is-state, state-started, states-exactly, given-reads-back}
 use Rattle.state.proofs.Answered.{without, written, write-answers}
 use Rattle.state.proofs.Loading.{save-done, file-in-front, load-done, load-agrees}
 
@@ -48,10 +48,10 @@ module _ (file : List ℕ) where
   refused-there v = there ∙ ap {B = Reply} reply (unfold loaded next mostUrgent in if-no _ _ refl ∙ if-no _ _ v)
 
   -- 8 exactly for a file that no agreeing started tables give; with it the next task is 0
-  pub eight-exactly : (loadReply (laid unstarted) file .answer .status ≡ 8) ↔ ((t : Tables) → Agrees t → isStarted t ≡ true → file ≡ stateFile t → ⊥)
+  pub eight-exactly : (loadReply (laid unstarted) file .answer .status ≡ 8) ↔ ((t : Tables) → Agrees t → isStarted t ≡ true → Gives t file → ⊥)
   eight-exactly = (
     λ e t a s w.
-        let v : isState file ≡ true = subst (λ (bs : List ℕ). isState bs ≡ true) (sym w) (written-is-state t a s) in
+        let v : isState file ≡ true = states-exactly file .1 (t, a, s, w) in
         absurd (omega (arith, e, ap (λ (x : Reply). x .answer .status) (read-there v))),
     λ none.
         ⊎-elim
@@ -73,29 +73,29 @@ saved-then-loaded bs buffer b z =
     ∙ ap (λ (u : Tables). without 0 (next u) (laid u)) (written-reads-back t (g .agrees))
     ∙ ap (without 0 (next t)) (sym (g .same))
 
--- what was loaded is saved: the same file, in front of what the buffer has
-pub loaded-then-saved : (bs file buffer : List ℕ) → Bytes bs → loadReply bs file .answer .status ≡ 0 → length file ≤ length buffer
+-- what was loaded is saved: the edition 2 file of its tables, in front of what the buffer has; of an edition 2 file the same file
+pub loaded-then-saved : (bs file buffer : List ℕ) → Bytes bs → loadReply bs file .answer .status ≡ 0
+    → let out = stateFile (tablesIn file) in length out ≤ length buffer
     → saveReply (loadReply bs file .bytes) buffer
-    ≡ record { answer = record { status = 0; value = length file; next = next (tablesIn file) }; bytes = file ++ drop (length file) buffer }
+    ≡ record { answer = record { status = 0; value = length out; next = next (tablesIn file) }; bytes = out ++ drop (length out) buffer }
 loaded-then-saved bs file buffer b z fits =
     let v = load-done bs file b z .valid in
     let g = load-agrees bs file b z in
     let from : List ℕ = loadReply bs file .bytes in
-    let same : stateFile (tablesIn file) ≡ file = sym (state-is-written file v) in
     write-answers from buffer .3 (entries.passes (g .0)) (subst (λ (t : Tables). isStarted t ≡ true) (sym (g .1)) (state-started file v))
-    (subst (λ (l : List ℕ). length l ≤ length buffer) (sym (ap stateFile (g .1) ∙ same)) fits)
+    (subst (λ (t : Tables). length (stateFile t) ≤ length buffer) (sym (g .1)) fits)
     ∙ ap (λ (t : Tables). written t buffer) (g .1)
-    ∙ ap (λ (l : List ℕ). record { answer = record { status = 0; value = length l; next = next (tablesIn file) }; bytes = l ++ drop (length l) buffer }) same
 
 -- what the saved machine gave out after the save names nothing in the loaded tables
-pub void-after-load : (t : Tables) → Agrees t → (requests : List Request) (caller name count attributes : ℕ) (priorities : List ℕ)
-    → let a = step (after t requests) (Create caller name count attributes) priorities .answer in
-    a .status ≡ 0 → names (tablesIn (stateFile t)) (a .value) ≡ false
-void-after-load t agreed requests caller name count attributes priorities z =
-    let id = step (after t requests) (Create caller name count attributes) priorities .answer .value in
-    rw (written-reads-back t agreed)
-    (⊎-elim (λ (n : names t id ≡ true). absurd (created-is-new t id requests caller name count attributes priorities n z refl)) (λ (n : names t id ≡ false). n)
-    (tested (names t id)))
+pub void-after-load : (t : Tables) → Agrees t → (file : List ℕ) → Gives t file
+    → (requests : List Request) (caller name count attributes maximum : ℕ) (priorities : List ℕ)
+    → let a = step (after t requests) (Create caller name count attributes maximum) priorities .answer in
+    a .status ≡ 0 → names (tablesIn file) (a .value) ≡ false
+void-after-load t agreed file gives requests caller name count attributes maximum priorities z =
+    let id = step (after t requests) (Create caller name count attributes maximum) priorities .answer .value in
+    rw (given-reads-back t agreed file gives)
+    (⊎-elim (λ (n : names t id ≡ true). absurd (created-is-new t id requests caller name count attributes maximum priorities n z refl))
+    (λ (n : names t id ≡ false). n) (tested (names t id)))
 
 -- ---- from the load on
 

@@ -4,13 +4,18 @@ use mathlib.Core.Bool.{true}
 use mathlib.Core.List.{List, [], _∷_, _++_, map}
 use Prim.Native.Nat.{ℕ, zero, suc, _+_, _*_, _≤_, _<_}
 use native.Mathlib.Omega.{arith}
+use lib.Dec.{eqb}
 use lib.ListN.{length, getD, length-append, List·getD-append}
+use Rattle.laws.specs.Choose.{choose}
+use Rattle.laws.proofs.Choose.{if-yes, if-no, choose-cases}
 use Rattle.laws.specs.Rows.{fit, tabulate, rows}
 use Rattle.laws.proofs.Fit.{length-tabulate, getD-fit}
 use Rattle.words.specs.Words.{wordAt}
 use Rattle.words.proofs.WordsInBytes.{Bytes, Words, words-within, wordAt-below}
 use Rattle.rules.specs.declared.Task.{Task}
+use Rattle.rules.specs.Numbers.{classMaximum}
 use Rattle.rules.specs.Machine.{Slot, Tables, noTask, freeSlot}
+use Rattle.rules.proofs.Invariants.Facts.{class-within}
 use Rattle.semaphore.specs.Record.{recordOf}
 use Rattle.tables.specs.Codec.{taskRow, taskFrom, slotRow}
 use Rattle.tables.specs.Layout.{taskPlace, slotPlace, sequencePlace, rowAt}
@@ -19,9 +24,11 @@ use Rattle.tables.proofs.LayoutWords.{no-slot-word, task-word, slot-word, seque
 use Rattle.tables.proofs.LayoutRead.{queue-word}
 use Rattle.tables.proofs.LayoutHolds.{holds-rows, task-row-words, slot-row-words}
 use Rattle.state.specs.declared.contents.Counts.{Counts}
-use Rattle.state.specs.File.{tasksBody, numbersRow, slotsBody, queueRow, queuesBody, stateNumbers}
-use Rattle.state.specs.Reading.{countsIn, slotsStart, queuesStart, readyStart, tasksFrom, slotOfRow, slotsFrom, tablesIn}
+use Rattle.state.specs.File.{firstEdition, tasksBody, numbersRow, slotsBody, queueRow, queuesBody, stateNumbers}
+use Rattle.state.specs.Reading.{slotNumbers, countsIn, slotsStart, queuesStart, readyStart, tasksFrom, firstMaximum, slotOfRow, slotsFrom}
+use Rattle.state.specs.Reading.{tablesIn, editionIn}
 use Rattle.state.specs.Shape.{mostQueues, contentsFor, isHeaded, isFilled, countsOf}
+use Rattle.state.proofs.Editions.{Told, numbers-few}
 use Rattle.state.proofs.File.{fromQueues, fromSlots, fourBodies, file-numbers}
 use Rattle.state.proofs.Shape.{headed-of, slots-each}
 
@@ -31,10 +38,17 @@ pub length-tasksFrom : (bs : List ℕ) (n : ℕ) → length (tasksFrom bs n) ≡
 unfolding tasksFrom
 length-tasksFrom bs n = length-tabulate n (λ i. taskFrom (rowAt bs (14 + 4 * i) 4))
 
-pub length-slotsFrom : (bs : List ℕ) (n at queue : ℕ) → length (slotsFrom bs n at queue) ≡ n
+pub length-slotsFrom : (bs : List ℕ) (e n at queue : ℕ) → length (slotsFrom bs e n at queue) ≡ n
 unfolding slotsFrom
-length-slotsFrom bs zero at queue = refl
-length-slotsFrom bs (suc n) at queue = ap suc (length-slotsFrom bs n (at + 7) (suc queue + wordAt bs queue))
+length-slotsFrom bs e zero at queue = refl
+length-slotsFrom bs e (suc n) at queue = ap suc (length-slotsFrom bs e n (at + slotNumbers e 1) (suc queue + wordAt bs queue))
+
+-- the edition tells the maximum of each slot read
+slots-told : (bs : List ℕ) (e n at queue i : ℕ) → Told e (getD (slotsFrom bs e n at queue) i (freeSlot 0))
+unfolding slotsFrom
+slots-told bs e zero at queue i y = sym (if-no _ _ refl)
+slots-told bs e (suc n) at queue zero y = if-yes _ _ y
+slots-told bs e (suc n) at queue (suc i) y = slots-told bs e n (at + slotNumbers e 1) (suc queue + wordAt bs queue) i y
 
 module _ (bs : List ℕ) where
   abbrev c : Counts
@@ -46,11 +60,15 @@ module _ (bs : List ℕ) where
 
   pub read-slots : length (tablesIn bs .slots) ≡ c .slots
   unfolding tablesIn
-  read-slots = length-slotsFrom bs (c .slots) (slotsStart c) (queuesStart c)
+  read-slots = length-slotsFrom bs (c .edition) (c .slots) (slotsStart c) (queuesStart c)
 
   pub read-ready : length (tablesIn bs .ready) ≡ c .ready
   unfolding tablesIn
   read-ready = length-tabulate (c .ready) (λ k. wordAt bs (readyStart c + k))
+
+  pub read-told : (i : ℕ) → Told (editionIn bs) (getD (tablesIn bs .slots) i (freeSlot 0))
+  unfolding tablesIn
+  read-told i = slots-told bs (editionIn bs) (c .slots) (slotsStart c) (queuesStart c) i
 
 -- ---- the tables read
 
@@ -63,7 +81,7 @@ tabulate-each P (suc n) f d none one (suc i) = tabulate-each P n (λ i. f (suc i
 no-task-words : Words (taskRow noTask)
 no-task-words = task-row-words noTask (omega arith) (omega arith) (omega arith) (omega arith)
 
--- all 40 numbers are 0
+-- all 41 numbers are 0
 no-slot-words : Words (slotRow (freeSlot 0))
 no-slot-words j = omega (arith, no-slot-word j)
 
@@ -79,19 +97,28 @@ module _ (bs : List ℕ) (b : Bytes bs) where
   row-few : (at queue : ℕ) → wordAt bs queue ≤ 32 → length (rowAt bs (suc queue) (wordAt bs queue)) ≤ 32
   row-few at queue few = omega (arith, length-tabulate (wordAt bs queue) (λ k. wordAt bs (suc queue + k)))
 
-  slot-words : (at queue : ℕ) → wordAt bs queue ≤ 32 → Words (slotRow (slotOfRow (rowAt bs at 7) (rowAt bs (suc queue) (wordAt bs queue))))
-  slot-words at queue few =
-      let w = row-words at 7 in
-      let waiters : List ℕ = rowAt bs (suc queue) (wordAt bs queue) in
-      slot-row-words (slotOfRow (rowAt bs at 7) waiters) (w 0) (w 1) (w 2) (w 3) (w 4) (w 5) (w 6) (row-few at queue few)
-      (row-words (suc queue) (wordAt bs queue))
+  maximum-word : (e live attributes given : ℕ) → given < 4294967296
+      → choose (eqb e firstEdition) (firstMaximum live attributes) given < 4294967296
+  maximum-word e live attributes given h =
+      choose-cases (λ (m : ℕ). m < 4294967296) (eqb e firstEdition) (firstMaximum live attributes) given
+      (λ y. choose-cases (λ (m : ℕ). m < 4294967296) (eqb live 1) (classMaximum attributes) 0 (λ l. omega (arith, class-within attributes)) (λ l. omega arith))
+      (λ n. h)
+
+  slot-words : (e at queue : ℕ) → wordAt bs queue ≤ 32
+      → Words (slotRow (slotOfRow e (rowAt bs at (slotNumbers e 1)) (rowAt bs (suc queue) (wordAt bs queue))))
+  slot-words e at queue few =
+      let w = row-words at (slotNumbers e 1) in
+      let ws : List ℕ = rowAt bs at (slotNumbers e 1) in
+      slot-row-words (slotOfRow e ws (rowAt bs (suc queue) (wordAt bs queue))) (w 0) (w 1) (w 2) (w 3) (w 4) (w 5) (w 6)
+      (maximum-word e (getD ws 1 0) (getD ws 3 0) (getD ws 7 0) (w 7)) (row-few at queue few) (row-words (suc queue) (wordAt bs queue))
 
   module _ (e : isHeaded bs ≡ true) (f : isFilled bs ≡ true) where
     read-each : (P : Slot → Type 0) → P (freeSlot 0)
-        → ((at queue : ℕ) → wordAt bs queue ≤ 32 → P (slotOfRow (rowAt bs at 7) (rowAt bs (suc queue) (wordAt bs queue))))
+        → ((at queue : ℕ) → wordAt bs queue ≤ 32
+        → P (slotOfRow (editionIn bs) (rowAt bs at (slotNumbers (editionIn bs) 1)) (rowAt bs (suc queue) (wordAt bs queue))))
         → (i : ℕ) → P (getD (tablesIn bs .slots) i (freeSlot 0))
     unfolding tablesIn
-    read-each P none one = slots-each bs P none one (c bs .slots) (slotsStart (c bs)) (queuesStart (c bs)) (readyStart (c bs)) f
+    read-each P none one = slots-each bs (editionIn bs) P none one (c bs .slots) (slotsStart (c bs)) (queuesStart (c bs)) (readyStart (c bs)) f
 
     pub held : Holds (tablesIn bs)
     unfolding tablesIn tasksFrom
@@ -104,7 +131,7 @@ module _ (bs : List ℕ) (b : Bytes bs) where
         (λ i l. read-each (λ (s : Slot). length (s .queue) ≤ 32) (omega arith) row-few i)
         (tabulate-each (λ (v : Task). Words (taskRow v)) (c bs .tasks) (λ i. taskFrom (rowAt bs (14 + 4 * i) 4)) noTask no-task-words
         (λ i. task-words (14 + 4 * i)))
-        (read-each (λ (s : Slot). Words (slotRow s)) no-slot-words slot-words)
+        (read-each (λ (s : Slot). Words (slotRow s)) no-slot-words (slot-words (editionIn bs)))
         (row-words (readyStart (c bs)) (c bs .ready))
 
 -- ---- words, one behind another
@@ -146,9 +173,9 @@ sum-most [] k = omega arith
 sum-most (w ∷ ws) zero = omega arith
 sum-most (w ∷ ws) (suc k) = omega (arith, sum-most ws k)
 
-contents-words : (d : Counts) → d .tasks ≤ 32 → d .slots ≤ 64 → d .queues ≤ mostQueues → d .ready ≤ 32 → Words (contentsFor d)
+contents-words : (d : Counts) → d .edition ≤ 2 → d .tasks ≤ 32 → d .slots ≤ 64 → d .queues ≤ mostQueues → d .ready ≤ 32 → Words (contentsFor d)
 unfolding sum
-contents-words d n m q r k = omega (arith, sum-most (contentsFor d) k)
+contents-words d e n m q r k = omega (arith, sum-most (contentsFor d) k, numbers-few (d .edition) (d .slots))
 
 module _ (t : Tables) (h : Holds t) where
   abbrev slotAt : ℕ → Slot
@@ -162,14 +189,19 @@ module _ (t : Tables) (h : Holds t) where
       words-within 4 (taskRow (getD (t .tasks) i noTask)) refl
       (λ j b. rw (← task-word t i j (omega (arith, h .limited .tasks)) b) (h .words (taskPlace i + j)))
 
-  slot-number : (i j : ℕ) → i < length (t .slots) → j < 40 → getD (slotRow (slotAt i)) j 0 < 4294967296
+  slot-number : (i j : ℕ) → i < length (t .slots) → j < 41 → getD (slotRow (slotAt i)) j 0 < 4294967296
   slot-number i j l b = rw (← slot-word t i j (omega (arith, h .limited .slots)) b) (h .words (slotPlace i + j))
 
-  numbers-row : (i : ℕ) → i < length (t .slots) → Words (numbersRow (slotAt i))
-  numbers-row i l =
+  numbers-row : (e i : ℕ) → i < length (t .slots) → Words (numbersRow e (slotAt i))
+  numbers-row e i l =
       let s : Slot = slotAt i in
-      words-within 7 (numbersRow s) refl
-      (λ j b. rw (List·getD-append (numbersRow s) (length (s .queue) ∷ fit 32 0 (s .queue)) 0 j b) at (slot-number i j l (omega arith)))
+      let all : List ℕ = s .generation ∷ s .live ∷ s .name ∷ s .attributes ∷ s .count ∷ s .owner ∷ s .nest ∷ [] in
+      let word : (j : ℕ) → j < 41 → getD (slotRow s) j 0 < 4294967296 = λ j b. slot-number i j l b in
+      words-append all (choose (eqb e firstEdition) [] (s .maximum ∷ []))
+      (words-within 7 all refl
+      (λ j b. rw (List·getD-append all (s .maximum ∷ length (s .queue) ∷ fit 32 0 (s .queue)) 0 j b) at (word j (omega arith))))
+      (choose-cases Words (eqb e firstEdition) [] (s .maximum ∷ []) (λ y k. omega arith)
+      (λ y. words-cons (s .maximum) [] (word 7 (omega arith)) (λ k. omega arith)))
 
   queue-row : (i : ℕ) → i < length (t .slots) → Words (queueRow (slotAt i))
   queue-row i l =
@@ -177,18 +209,18 @@ module _ (t : Tables) (h : Holds t) where
       let few : length q ≤ 32 = h .limited .queues i l in
       words-cons (length q) q (omega arith)
       (words-within (length q) q refl
-      (λ k b. omega (arith, slot-number i (8 + k) l (omega arith), queue-word (recordOf (slotAt i)) k, getD-fit 32 0 q k (omega arith))))
+      (λ k b. omega (arith, slot-number i (9 + k) l (omega arith), queue-word (recordOf (slotAt i)) k, getD-fit 32 0 q k (omega arith))))
 
   ready-row : Words (t .ready)
   ready-row =
       words-within (length (t .ready)) (t .ready) refl
       (λ k b. rw (← sequence-word t k (omega (arith, h .limited .ready))) (h .words (sequencePlace k)))
 
-  pub file-words : Words (stateNumbers t)
-  file-words =
-      subst Words (sym (file-numbers t))
-      (words-append (contentsFor (countsOf t)) (fourBodies t)
-      (contents-words (countsOf t) (h .limited .tasks) (h .limited .slots) queues-few (h .limited .ready))
-      (words-append (tasksBody t) (fromSlots t) (words-rows taskRow noTask (t .tasks) task-row)
-      (words-append (slotsBody t) (fromQueues t) (words-rows numbersRow (freeSlot 0) (t .slots) numbers-row)
+  pub file-words : (e : ℕ) → e ≤ 2 → Words (stateNumbers e t)
+  file-words e f =
+      subst Words (sym (file-numbers e t))
+      (words-append (contentsFor (countsOf e t)) (fourBodies e t)
+      (contents-words (countsOf e t) f (h .limited .tasks) (h .limited .slots) queues-few (h .limited .ready))
+      (words-append (tasksBody t) (fromSlots e t) (words-rows taskRow noTask (t .tasks) task-row)
+      (words-append (slotsBody e t) (fromQueues t) (words-rows (numbersRow e) (freeSlot 0) (t .slots) (numbers-row e))
       (words-append (queuesBody t) (t .ready) (words-rows queueRow (freeSlot 0) (t .slots) queue-row) ready-row))))

@@ -22,9 +22,10 @@ use Rattle.lookup.proofs.Model.{length-tasks, length-slots}
 use Rattle.calls.specs.Agreeing.{Agreeing}
 use Rattle.calls.proofs.Agreeing.{sized}
 use Rattle.state.specs.declared.contents.Counts.{Counts}
-use Rattle.state.specs.File.{isStarted, queueRow, queuesBody, stateFile, longestFile}
+use Rattle.state.specs.File.{isStarted, secondEdition, queueRow, queuesBody, stateFile, longestFile}
 use Rattle.state.specs.Shape.{Small, countsOf}
-use Rattle.state.proofs.File.{length-stateFile}
+use Rattle.state.proofs.File.{length-file}
+use Rattle.state.proofs.Editions.{eight}
 
 -- a length for each slot, and the queues
 length-queues : (ss : List Slot) → length (rows (map queueRow ss)) ≡ length ss + length (rows (map (λ s. s .queue) ss))
@@ -44,16 +45,18 @@ module _ (t : Tables) (a : Agrees t) where
   pub queues-length : length (queuesBody t) + length (t .ready) ≡ length (t .slots) + length (t .tasks)
   queues-length = omega (arith, length-queues (t .slots), standing t a)
 
-  pub file-length : length (stateFile t) ≡ 56 + 20 * length (t .tasks) + 32 * length (t .slots)
-  file-length = omega (arith, length-stateFile t, queues-length)
+  pub file-length : length (stateFile t) ≡ 56 + 20 * length (t .tasks) + 36 * length (t .slots)
+  file-length = omega (arith, length-file secondEdition t, queues-length, eight secondEdition (length (t .slots)) refl)
 
   pub file-longest : length (stateFile t) ≤ longestFile
   file-longest = omega (arith, file-length, sizes-within t (a .sizes) .tasks, sizes-within t (a .sizes) .slots)
 
-  pub counts-small : isStarted t ≡ true → Small (countsOf t)
+  pub counts-small : isStarted t ≡ true → Small (countsOf secondEdition t)
   counts-small e =
       let s = sizes-within t (a .sizes) in
       record {
+        first = omega arith;
+        last = omega arith;
         some = leb-true 1 (length (t .tasks)) e;
         tasks = s .tasks;
         slots = s .slots;
@@ -67,13 +70,14 @@ module _ {bs : List ℕ} (g : Agreeing bs) where
   ready-within = omega (arith, length-ready bs (sized g .ready), length-tasks bs, standing (modelOf bs) (g .agrees))
 
   pub counts-read : (tasks slots ready : ℕ) → tasks ≡ wordAt bs 0 → slots ≡ wordAt bs 1 → ready ≡ wordAt bs readyPlace
-      → _≡_ {A = Counts} (record { tasks = tasks; slots = slots; queues = slots + (tasks - ready); ready = ready }) (countsOf (modelOf bs))
+      → _≡_ {A = Counts} (record { edition = secondEdition; tasks = tasks; slots = slots; queues = slots + (tasks - ready); ready = ready })
+      (countsOf secondEdition (modelOf bs))
   counts-read tasks slots ready n s r =
       let N : tasks ≡ length (modelOf bs .tasks) = omega (arith, length-tasks bs) in
       let S : slots ≡ length (modelOf bs .slots) = omega (arith, length-slots bs) in
       let R : ready ≡ length (modelOf bs .ready) = omega (arith, length-ready bs (sized g .ready)) in
       let Q : slots + (tasks - ready) ≡ length (queuesBody (modelOf bs)) = omega (arith, ready-within, queues-length (modelOf bs) (g .agrees)) in
-      λ k. record { tasks = N k; slots = S k; queues = Q k; ready = R k }
+      λ k. record { edition = secondEdition; tasks = N k; slots = S k; queues = Q k; ready = R k }
 
 -- 32 tasks and 64 slots give the longest
 abbrev largest : Tables

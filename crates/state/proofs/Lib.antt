@@ -1,3 +1,4 @@
+pub mod Editions
 pub mod File
 pub mod Stands
 pub mod Round

@@ -16,51 +16,70 @@ use Rattle.rules.specs.Machine.{Slot, freeSlot}
 use Rattle.tables.specs.Layout.{rowAt}
 use Rattle.state.specs.declared.contents.Counts.{Counts}
 use Rattle.state.specs.File.{queueRow}
-use Rattle.state.specs.Reading.{countsIn, fileEnd, slotOfRow, slotsFrom}
+use Rattle.state.specs.Reading.{slotNumbers, slotsIn, countsIn, fileEnd, slotOfRow, slotsFrom}
 use Rattle.state.specs.Shape.{Small, isSmall, contentsFor, isHeaded, queuesFit}
 use Rattle.state.proofs.Stands.{Stands, tested-stands, stands-tested, stands-first, stands-behind}
 
 -- ---- contents: the counts as they are read, and whether they are small
 
-pub counts-read : (bs : List ℕ) (a b c d : ℕ) → a ≡ wordAt bs 4 → b ≡ wordAt bs 7 → c ≡ wordAt bs 10 → d ≡ wordAt bs 13
-    → _≡_ {A = Counts} (record { tasks = a / 16; slots = b / 28; queues = c / 4; ready = d / 4 }) (countsIn bs)
-counts-read bs a b c d ea eb ec ed = λ k. record { tasks = ea k / 16; slots = eb k / 28; queues = ec k / 4; ready = ed k / 4 }
+pub counts-read : (bs : List ℕ) (e a s c d : ℕ) → e ≡ wordAt bs 0 → a ≡ wordAt bs 4 → s ≡ slotsIn (wordAt bs 0) (wordAt bs 7) → c ≡ wordAt bs 10
+    → d ≡ wordAt bs 13
+    → _≡_ {A = Counts} (record { edition = e; tasks = a / 16; slots = s; queues = c / 4; ready = d / 4 }) (countsIn bs)
+counts-read bs e a s c d ee ea es ec ed = λ k. record { edition = ee k; tasks = ea k / 16; slots = es k; queues = ec k / 4; ready = ed k / 4 }
 
 pub small-of : (c : Counts) → isSmall c ≡ true → Small c
 small-of c e =
-    let p = and-both _ _ e in
+    let f = and-both _ _ e in
+    let g = and-both _ _ (f .0) in
+    let p = and-both _ _ (f .1) in
     let n = and-both _ _ (p .0) in
     let q = and-both _ _ (p .1) in
     let r = and-both _ _ (q .1) in
-    record { some = leb-true _ _ (n .0); tasks = leb-true _ _ (n .1); slots = leb-true _ _ (q .0); queues = leb-true _ _ (r .0); ready = leb-true _ _ (r .1) }
+    record {
+      first = leb-true _ _ (g .0);
+      last = leb-true _ _ (g .1);
+      some = leb-true _ _ (n .0);
+      tasks = leb-true _ _ (n .1);
+      slots = leb-true _ _ (q .0);
+      queues = leb-true _ _ (r .0);
+      ready = leb-true _ _ (r .1);
+    }
 
 pub small-true : (c : Counts) → Small c → isSmall c ≡ true
 small-true c s =
-    both-and (both-and (le-leb _ _ (s .some)) (le-leb _ _ (s .tasks)))
-    (both-and (le-leb _ _ (s .slots)) (both-and (le-leb _ _ (s .queues)) (le-leb _ _ (s .ready))))
+    both-and (both-and (le-leb _ _ (s .first)) (le-leb _ _ (s .last)))
+    (both-and (both-and (le-leb _ _ (s .some)) (le-leb _ _ (s .tasks)))
+    (both-and (le-leb _ _ (s .slots)) (both-and (le-leb _ _ (s .queues)) (le-leb _ _ (s .ready)))))
 
 -- each test behind those that held
 module _ (c : Counts) where
-  pub no-task : c .tasks ≡ 0 → false ≡ isSmall c
-  no-task e = let h : c .tasks < 1 = omega arith in search cases
+  pub no-edition : c .edition < 1 → false ≡ isSmall c
+  no-edition h = search cases
 
-  module _ (some : c .tasks ≡ 0 → ⊥) where
-    least : 1 ≤ c .tasks
-    least = omega arith
+  pub late-edition : 1 ≤ c .edition → 2 < c .edition → false ≡ isSmall c
+  late-edition l h = search cases
 
-    pub many-tasks : 32 < c .tasks → false ≡ isSmall c
-    many-tasks h = let l : 1 ≤ c .tasks = least in search cases
+  module _ (first : 1 ≤ c .edition) (last : c .edition ≤ 2) where
+    pub no-task : c .tasks ≡ 0 → false ≡ isSmall c
+    no-task e = let h : c .tasks < 1 = omega arith in search cases
 
-    module _ (tasks : c .tasks ≤ 32) where
-      pub many-slots : 64 < c .slots → false ≡ isSmall c
-      many-slots h = let l : 1 ≤ c .tasks = least in search cases
+    module _ (some : c .tasks ≡ 0 → ⊥) where
+      least : 1 ≤ c .tasks
+      least = omega arith
 
-      module _ (slots : c .slots ≤ 64) where
-        pub many-queues : 2112 < c .queues → false ≡ isSmall c
-        many-queues h = let l : 1 ≤ c .tasks = least in search cases
+      pub many-tasks : 32 < c .tasks → false ≡ isSmall c
+      many-tasks h = let l : 1 ≤ c .tasks = least in search cases
 
-        pub ready-tested : c .queues ≤ 2112 → leb (c .ready) 32 ≡ isSmall c
-        ready-tested h = let l : 1 ≤ c .tasks = least in search cases
+      module _ (tasks : c .tasks ≤ 32) where
+        pub many-slots : 64 < c .slots → false ≡ isSmall c
+        many-slots h = let l : 1 ≤ c .tasks = least in search cases
+
+        module _ (slots : c .slots ≤ 64) where
+          pub many-queues : 2112 < c .queues → false ≡ isSmall c
+          many-queues h = let l : 1 ≤ c .tasks = least in search cases
+
+          pub ready-tested : c .queues ≤ 2112 → leb (c .ready) 32 ≡ isSmall c
+          ready-tested h = let l : 1 ≤ c .tasks = least in search cases
 
 -- ---- the test of the contents, in its order
 
@@ -135,27 +154,27 @@ module _ (bs : List ℕ) where
       (both-and (le-leb (wordAt bs at) 32 (f .few)) (both-and (le-leb (suc at + wordAt bs at) end (f .inside)) (f .others)))
 
   -- what is so of every slot whose queue has at most 32 tasks, and of a free one, is so of each slot read
-  pub slots-each : (P : Slot → Type 0) → P (freeSlot 0)
-      → ((at queue : ℕ) → wordAt bs queue ≤ 32 → P (slotOfRow (rowAt bs at 7) (rowAt bs (suc queue) (wordAt bs queue))))
-      → (n at queue end : ℕ) → queuesFit bs n queue end ≡ true → (i : ℕ) → P (getD (slotsFrom bs n at queue) i (freeSlot 0))
+  pub slots-each : (e : ℕ) (P : Slot → Type 0) → P (freeSlot 0)
+      → ((at queue : ℕ) → wordAt bs queue ≤ 32 → P (slotOfRow e (rowAt bs at (slotNumbers e 1)) (rowAt bs (suc queue) (wordAt bs queue))))
+      → (n at queue end : ℕ) → queuesFit bs n queue end ≡ true → (i : ℕ) → P (getD (slotsFrom bs e n at queue) i (freeSlot 0))
   unfolding slotsFrom
-  slots-each P none one zero at queue end e i = none
-  slots-each P none one (suc n) at queue end e zero = one at queue (first-fits n queue end e .few)
-  slots-each P none one (suc n) at queue end e (suc i) =
-      slots-each P none one n (at + 7) (suc queue + wordAt bs queue) end (first-fits n queue end e .others) i
+  slots-each e P none one zero at queue end f i = none
+  slots-each e P none one (suc n) at queue end f zero = one at queue (first-fits n queue end f .few)
+  slots-each e P none one (suc n) at queue end f (suc i) =
+      slots-each e P none one n (at + slotNumbers e 1) (suc queue + wordAt bs queue) end (first-fits n queue end f .others) i
 
   -- the queues read end where they should
-  pub queues-end : (n at queue end : ℕ) → queuesFit bs n queue end ≡ true → queue + length (rows (map queueRow (slotsFrom bs n at queue))) ≡ end
+  pub queues-end : (e n at queue end : ℕ) → queuesFit bs n queue end ≡ true → queue + length (rows (map queueRow (slotsFrom bs e n at queue))) ≡ end
   unfolding slotsFrom rows
-  queues-end zero at queue end e = unfold queuesFit in omega (arith, eqb-true queue end e)
-  queues-end (suc n) at queue end e =
+  queues-end e zero at queue end f = unfold queuesFit in omega (arith, eqb-true queue end f)
+  queues-end e (suc n) at queue end f =
       let waiters : List ℕ = rowAt bs (suc queue) (wordAt bs queue) in
       let next : ℕ = suc queue + wordAt bs queue in
       omega (
         arith,
-        length-append waiters (rows (map queueRow (slotsFrom bs n (at + 7) next))),
+        length-append waiters (rows (map queueRow (slotsFrom bs e n (at + slotNumbers e 1) next))),
         length-tabulate (wordAt bs queue) (λ k. wordAt bs (suc queue + k)),
-        queues-end n (at + 7) next end (first-fits n queue end e .others),
+        queues-end e n (at + slotNumbers e 1) next end (first-fits n queue end f .others),
       )
 
   -- queues that stand in the bytes fit

@@ -6,6 +6,7 @@ use native.Mathlib.Numerals.{add-one}
 use native.Mathlib.Omega.{arith}
 use lib.ListN.{length, getD, drop, length-append}
 use lib.Seq.{sets, drop-cons, drop-length}
+use Rattle.laws.specs.Choose.{choose}
 use Rattle.laws.specs.Rows.{rows}
 use Rattle.laws.proofs.Fit.{sets-join}
 use Rattle.words.specs.Words.{bytesOfWord, bytesOf, wordAt}
@@ -18,8 +19,8 @@ use Rattle.tables.specs.Sizes.{Bounded}
 use Rattle.lookup.proofs.Model.{slot-read}
 use Rattle.agreement.proofs.Model.{queueIn, queue-length}
 use Rattle.state.specs.declared.contents.Counts.{Counts}
-use Rattle.state.specs.File.{tasksBody, numbersRow, slotsBody, queueRow, queuesBody, stateNumbers, stateFile}
-use Rattle.state.specs.Reading.{slotsStart, queuesStart, readyStart, fileEnd}
+use Rattle.state.specs.File.{secondEdition, tasksBody, numbersRow, slotsBody, queueRow, queuesBody, stateNumbers, editionFile, stateFile}
+use Rattle.state.specs.Reading.{slotNumbers, slotsStart, queuesStart, readyStart, fileEnd}
 use Rattle.state.specs.Shape.{contentsFor, countsOf, Written}
 use Rattle.state.proofs.File.{length-tasksBody, length-slotsBody, fromQueues, fromSlots, fourBodies, file-numbers}
 
@@ -84,10 +85,20 @@ module _ {A : Type 0} (f : A → List ℕ) (xs : List A) (d : A) where
 
 -- ---- the rows of the tables
 
+-- edition 2 writes a slot's maximum behind its other numbers
+pub row-written : (s : Slot)
+    → numbersRow secondEdition s ≡ s .generation ∷ s .live ∷ s .name ∷ s .attributes ∷ s .count ∷ s .owner ∷ s .nest ∷ s .maximum ∷ []
+unfolding choose
+row-written s = refl
+
 -- the numbers of a slot are those of its head
 pub numbers-read : (bs : List ℕ) (i : ℕ) (s : Head) → i < wordAt bs 1 → s ≡ headOf (recordAt bs i)
-    → numbersRow (slotWith s []) ≡ numbersRow (getD (modelOf bs .slots) i (freeSlot 0))
-numbers-read bs i s h e = ap (λ (s : Head). numbersRow (slotWith s [])) e ∙ sym (ap {A = Slot} numbersRow (slot-read bs i h))
+    → s .generation ∷ s .live ∷ s .name ∷ s .attributes ∷ s .count ∷ s .owner ∷ s .nest ∷ s .maximum ∷ []
+    ≡ numbersRow secondEdition (getD (modelOf bs .slots) i (freeSlot 0))
+numbers-read bs i s h e =
+    sym (row-written (slotWith s []))
+    ∙ ap (λ (s : Head). numbersRow secondEdition (slotWith s [])) e
+    ∙ sym (ap {A = Slot} (numbersRow secondEdition) (slot-read bs i h))
 
 -- a queue is written behind its length
 module _ (bs : List ℕ) (b : Bounded bs) (i : ℕ) (h : i < wordAt bs 1) where
@@ -106,13 +117,13 @@ module _ (bs : List ℕ) (b : Bounded bs) (i : ℕ) (h : i < wordAt bs 1) where
 
 -- ---- the file
 
-module _ (t : Tables) (c : Counts) (e : c ≡ countsOf t) where
+module _ (t : Tables) (c : Counts) (e : c ≡ countsOf secondEdition t) where
   -- each body ends where the next begins
   pub tasks-end : slotsStart c ≡ 14 + length (tasksBody t)
   tasks-end = omega (arith, ap (λ (c : Counts). c .tasks) e, length-tasksBody t)
 
-  pub slots-end : queuesStart c ≡ slotsStart c + length (slotsBody t)
-  slots-end = omega (arith, ap (λ (c : Counts). c .slots) e, length-slotsBody t)
+  pub slots-end : queuesStart c ≡ slotsStart c + length (slotsBody secondEdition t)
+  slots-end = omega (arith, ap (λ (c : Counts). slotNumbers (c .edition) (c .slots)) e, length-slotsBody secondEdition t)
 
   pub queues-end : readyStart c ≡ queuesStart c + length (queuesBody t)
   queues-end = omega (arith, ap (λ (c : Counts). c .queues) e)
@@ -122,13 +133,16 @@ module _ (t : Tables) (c : Counts) (e : c ≡ countsOf t) where
 
   pub file-written : (slotsAt queuesAt readyAt : ℕ) → slotsAt ≡ slotsStart c → queuesAt ≡ queuesStart c → readyAt ≡ readyStart c
       → (file₀ file₁ file₂ file₃ file₄ file₅ : List ℕ) → Written 0 (contentsFor c) file₀ file₁ → Written 14 (tasksBody t) file₁ file₂
-      → Written slotsAt (slotsBody t) file₂ file₃ → Written queuesAt (queuesBody t) file₃ file₄ → Written readyAt (t .ready) file₄ file₅
+      → Written slotsAt (slotsBody secondEdition t) file₂ file₃ → Written queuesAt (queuesBody t) file₃ file₄ → Written readyAt (t .ready) file₄ file₅
       → file₅ ≡ sets file₀ 0 (stateFile t)
-  unfolding stateFile
+  unfolding editionFile
   file-written slotsAt queuesAt readyAt s q r file₀ file₁ file₂ file₃ file₄ file₅ contents tasks slots queues ready =
       let third = written-behind file₃ queuesAt (queuesBody t) readyAt (t .ready) file₄ file₅ (omega (arith, queues-end)) queues ready in
-      let second = written-behind file₂ slotsAt (slotsBody t) queuesAt (fromQueues t) file₃ file₅ (omega (arith, slots-end)) slots third in
-      let first = written-behind file₁ 14 (tasksBody t) slotsAt (fromSlots t) file₂ file₅ (omega (arith, tasks-end)) tasks second in
-      let numbers : contentsFor c ++ fourBodies t ≡ stateNumbers t = ap (λ (c : Counts). contentsFor c ++ fourBodies t) e ∙ sym (file-numbers t) in
-      written-behind file₀ 0 (contentsFor c) 14 (fourBodies t) file₁ file₅ refl contents first
+      let second = written-behind file₂ slotsAt (slotsBody secondEdition t) queuesAt (fromQueues t) file₃ file₅ (omega (arith, slots-end)) slots third in
+      let first = written-behind file₁ 14 (tasksBody t) slotsAt (fromSlots secondEdition t) file₂ file₅ (omega (arith, tasks-end)) tasks second in
+      let bodies : List ℕ = fourBodies secondEdition t in
+      let numbers : contentsFor c ++ bodies ≡ stateNumbers secondEdition t =
+      ap (λ (c : Counts). contentsFor c ++ bodies) e ∙ sym (file-numbers secondEdition t)
+      in
+      written-behind file₀ 0 (contentsFor c) 14 bodies file₁ file₅ refl contents first
       ∙ ap (λ (ws : List ℕ). sets file₀ 0 (bytesOf ws)) numbers

@@ -29,7 +29,8 @@ saved t buffer =
 unfoldable pub saveReply : List ℕ → List ℕ → Reply
 saveReply bs buffer = choose (agreesBytes bs) (saved (modelOf bs) buffer) (record { answer = noNext; bytes = buffer })
 
--- ---- read: 25, then 14 for a started machine, then 8 for any file that no agreeing started tables give; with 8 the machine is not started, so next is 0
+-- ---- read: 25, then 14 for a started machine, then 8 for any file that no agreeing started tables give in either edition;
+-- with 8 the machine is not started, so next is 0
 
 unfoldable pub loaded : Tables → List ℕ → Outcome
 loaded t file =

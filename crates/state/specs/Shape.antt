@@ -12,8 +12,8 @@ use Rattle.rules.specs.Numbers.{maxTasks, maxSlots, within}
 use Rattle.rules.specs.Machine.{Tables}
 use Rattle.tables.specs.declared.Head.{Head}
 use Rattle.state.specs.declared.contents.Counts.{Counts}
-use Rattle.state.specs.File.{queuesBody}
-use Rattle.state.specs.Reading.{countsIn, queuesStart, readyStart, fileEnd}
+use Rattle.state.specs.File.{firstEdition, secondEdition, queuesBody}
+use Rattle.state.specs.Reading.{slotNumbers, countsIn, queuesStart, readyStart, fileEnd, maximumOfRow, isEdition}
 
 -- ---- contents
 
@@ -21,7 +21,10 @@ use Rattle.state.specs.Reading.{countsIn, queuesStart, readyStart, fileE
 abbrev pub mostQueues : ℕ
 mostQueues = 2112
 
+-- an edition that is read, and counts within the places there are
 pub record Small (c : Counts) : Type 0 where
+  pub first : firstEdition ≤ c .edition
+  pub last : c .edition ≤ secondEdition
   pub some : 1 ≤ c .tasks
   pub tasks : c .tasks ≤ maxTasks
   pub slots : c .slots ≤ maxSlots
@@ -29,16 +32,21 @@ pub record Small (c : Counts) : Type 0 where
   pub ready : c .ready ≤ maxTasks
 
 abbrev pub isSmall : Counts → Bool
-isSmall c = within 1 maxTasks (c .tasks) and leb (c .slots) maxSlots and leb (c .queues) mostQueues and leb (c .ready) maxTasks
+isSmall c =
+    isEdition (c .edition) and within 1 maxTasks (c .tasks) and leb (c .slots) maxSlots and leb (c .queues) mostQueues and leb (c .ready) maxTasks
+
+-- the length of body 2
+abbrev pub slotsLength : Counts → ℕ
+slotsLength c = 4 * slotNumbers (c .edition) (c .slots)
 
 -- the 14 numbers of the contents
 abbrev pub contentsFor : Counts → List ℕ
 contentsFor c =
-    1 ∷ 4
+    c .edition ∷ 4
     ∷ 1 ∷ 56 ∷ (16 * c .tasks)
-    ∷ 2 ∷ (56 + 16 * c .tasks) ∷ (28 * c .slots)
-    ∷ 3 ∷ (56 + 16 * c .tasks + 28 * c .slots) ∷ (4 * c .queues)
-    ∷ 4 ∷ (56 + 16 * c .tasks + 28 * c .slots + 4 * c .queues) ∷ (4 * c .ready)
+    ∷ 2 ∷ (56 + 16 * c .tasks) ∷ slotsLength c
+    ∷ 3 ∷ (56 + 16 * c .tasks + slotsLength c) ∷ (4 * c .queues)
+    ∷ 4 ∷ (56 + 16 * c .tasks + slotsLength c + 4 * c .queues) ∷ (4 * c .ready)
     ∷ []
 
 -- the contents are those of a file of this length
@@ -57,8 +65,8 @@ abbrev pub isFilled : List ℕ → Bool
 isFilled bs = let c : Counts = countsIn bs in queuesFit bs (c .slots) (queuesStart c) (readyStart c)
 
 -- a slot's numbers in a row, with an empty queue
-abbrev pub headOfRow : List ℕ → Head
-headOfRow ws =
+abbrev pub headOfRow : ℕ → List ℕ → Head
+headOfRow edition ws =
     record {
       generation = getD ws 0 0;
       live = getD ws 1 0;
@@ -67,13 +75,15 @@ headOfRow ws =
       count = getD ws 4 0;
       owner = getD ws 5 0;
       nest = getD ws 6 0;
+      maximum = maximumOfRow edition ws;
       waiters = 0;
     }
 
 -- ---- a write
 
-abbrev pub countsOf : Tables → Counts
-countsOf t = record { tasks = length (t .tasks); slots = length (t .slots); queues = length (queuesBody t); ready = length (t .ready) }
+abbrev pub countsOf : ℕ → Tables → Counts
+countsOf edition t =
+    record { edition = edition; tasks = length (t .tasks); slots = length (t .slots); queues = length (queuesBody t); ready = length (t .ready) }
 
 -- there is room for the numbers from number `at` of the file on
 abbrev pub HasRoom : ℕ → List ℕ → List ℕ → Type 0

@@ -3,24 +3,32 @@ ghost use mathlib.Core.Path.{_≡_};
 ghost use mathlib.Core.Bool.{true};
 ghost use Prim.Native.Nat.{_≤_};
 ghost use lib.ListN.{length};
-ghost use Rattle.state.specs.Reading.{countsIn, slotsStart, queuesStart, readyStart, fileEnd};
+ghost use Rattle.state.specs.Reading.{slotNumbers, slotsIn, countsIn, slotsStart, queuesStart, readyStart, fileEnd};
 ghost use Rattle.state.specs.Shape.{Small, isSmall, contentsFor, isHeaded, HasRoom, Written};
 ghost use Rattle.words.specs.Words.{sameWords};
 
-// Tasks, slots, the numbers of body 3, and ready tasks.
+// The edition; tasks, slots, the numbers of body 3, and ready tasks.
 pub struct Counts {
+    pub edition: u32,
     pub tasks: u32,
     pub slots: u32,
     pub queues: u32,
     pub ready: u32,
 }
 
+// Edition 1 has no maxima; edition 2 is written.
+pub const FIRST_EDITION: u32 = 1;
+
+pub const SECOND_EDITION: u32 = 2;
+
 // 64 lengths and, behind each, no more than 32 tasks.
 const MOST_QUEUES: u32 = 2112;
 
 const CONTENTS_LENGTH: usize = 56;
 
-// Where a body's length stands.
+// Where the edition and a body's length stand.
+const EDITION: usize = 0;
+
 const TASKS_LENGTH: usize = 4;
 
 const SLOTS_LENGTH: usize = 7;
@@ -29,15 +37,36 @@ const QUEUES_LENGTH: usize = 10;
 
 const READY_LENGTH: usize = 13;
 
+// How many numbers the records of so many slots are.
+pub fn slot_numbers(edition: u32, slots: u32) -> u32
+    requires { ⌜ slots ≤ 64 ⌝ }
+    ensures { λ r. ⌜ r ≡ slotNumbers edition slots ⌝ }
+{
+    if edition == FIRST_EDITION {
+        return 7 * slots;
+    }
+    8 * slots
+}
+
+// And of how many slots a body 2 of that length is.
+fn slots_in(edition: u32, length: u32) -> u32
+    ensures { λ r. ⌜ r ≡ slotsIn edition length ⌝ }
+{
+    if edition == FIRST_EDITION {
+        return length / 28;
+    }
+    length / 32
+}
+
 fn row(c: Counts) -> [u32; 14]
     requires { ⌜ Small c ⌝ }
     ensures { λ r. ⌜ r ≡ contentsFor c ⌝ }
 {
     let tasks = 16 * c.tasks;
-    let slots = 28 * c.slots;
+    let slots = 4 * slot_numbers(c.edition, c.slots);
     let queues = 4 * c.queues;
     [
-        1,
+        c.edition,
         4,
         1,
         56,
@@ -66,7 +95,7 @@ pub fn queues_start(c: Counts) -> usize
     requires { ⌜ Small c ⌝ }
     ensures { λ r. ⌜ r ≡ queuesStart c ⌝ }
 {
-    slots_start(c) + 7 * c.slots as usize
+    slots_start(c) + slot_numbers(c.edition, c.slots) as usize
 }
 
 pub fn ready_start(c: Counts) -> usize
@@ -96,9 +125,11 @@ pub fn counts_in(file: &[u8]) -> Counts
     requires { ⌜ 56 ≤ length (now file) ⌝ }
     ensures { λ r. ⌜ r ≡ countsIn (now (file .entry)) ⌝ }
 {
+    let edition = words::word(file, EDITION);
     Counts {
+        edition,
         tasks: words::word(file, TASKS_LENGTH) / 16,
-        slots: words::word(file, SLOTS_LENGTH) / 28,
+        slots: slots_in(edition, words::word(file, SLOTS_LENGTH)),
         queues: words::word(file, QUEUES_LENGTH) / 4,
         ready: words::word(file, READY_LENGTH) / 4,
     }
@@ -107,6 +138,12 @@ pub fn counts_in(file: &[u8]) -> Counts
 fn is_small(c: Counts) -> bool
     ensures { λ r. ⌜ r ≡ isSmall c ⌝ }
 {
+    if c.edition < FIRST_EDITION {
+        return false;
+    }
+    if SECOND_EDITION < c.edition {
+        return false;
+    }
     if c.tasks == 0 {
         return false;
     }

@@ -12,7 +12,7 @@ ghost use Rattle.rules.specs.Semaphore.{requeued};
 ghost use Rattle.words.specs.Words.{wordAt};
 ghost use Rattle.tables.specs.Codec.{taskFrom};
 ghost use Rattle.tables.specs.Layout.{tablesLength, laid, rowAt, queueOf};
-ghost use Rattle.state.specs.Reading.{tasksFrom, slotOfRow, slotsFrom, tablesIn, isState};
+ghost use Rattle.state.specs.Reading.{slotNumbers, tasksFrom, maximumOfRow, slotOfRow, slotsFrom, tablesIn, isState};
 ghost use Rattle.state.specs.Shape.{isHeaded, queuesFit, isFilled, headOfRow};
 
 // A task, and a slot's numbers, from number `at` on.
@@ -28,9 +28,23 @@ fn task_in(file: &[u8], at: usize) -> Task
     }
 }
 
-fn head_in(file: &[u8], at: usize) -> Head
-    requires { ⌜ 4 * at + 28 ≤ length (now file) ⌝ }
-    ensures { λ r. ⌜ r ≡ headOfRow (rowAt (now (file .entry)) at 7) ⌝ }
+// The maximum behind them: edition 1 has none, and live slots get the greatest of their class.
+fn maximum_in(file: &[u8], edition: u32, at: usize) -> u32
+    requires { ⌜ 4 * at + 4 * slotNumbers edition 1 ≤ length (now file) ⌝ }
+    ensures { λ r. ⌜ r ≡ maximumOfRow edition (rowAt (now (file .entry)) at (slotNumbers edition 1)) ⌝ }
+{
+    if edition != contents::FIRST_EDITION {
+        return words::word(file, at + 7);
+    }
+    if words::word(file, at + 1) != 1 {
+        return 0;
+    }
+    rules::class_maximum(words::word(file, at + 3))
+}
+
+fn head_in(file: &[u8], edition: u32, at: usize) -> Head
+    requires { ⌜ 4 * at + 4 * slotNumbers edition 1 ≤ length (now file) ⌝ }
+    ensures { λ r. ⌜ r ≡ headOfRow edition (rowAt (now (file .entry)) at (slotNumbers edition 1)) ⌝ }
 {
     Head {
         generation: words::word(file, at),
@@ -40,6 +54,7 @@ fn head_in(file: &[u8], at: usize) -> Head
         count: words::word(file, at + 4),
         owner: words::word(file, at + 5),
         nest: words::word(file, at + 6),
+        maximum: maximum_in(file, edition, at),
         waiters: 0,
     }
 }
@@ -72,23 +87,33 @@ fn fill_queue(m: &mut [u8], i: usize, file: &[u8], at: usize, n: usize)
 }
 
 // A slot with its queue, n tasks from number `queue` on, over one whose queue is empty.
-fn fill_slot(m: &mut [u8], i: usize, file: &[u8], at: usize, queue: usize, n: usize)
-    requires { ⌜ (length (now m) ≡ tablesLength) × (i < 64) × (n ≤ 32) × (4 * at + 28 ≤ length (now file)) × (4 * (queue + n) ≤ length (now file)) ⌝ }
+fn fill_slot(m: &mut [u8], i: usize, file: &[u8], edition: u32, at: usize, queue: usize, n: usize)
+    requires { ⌜ (length (now m) ≡ tablesLength) × (i < 64) × (n ≤ 32) × (4 * at + 4 * slotNumbers edition 1 ≤ length (now file))
+        × (4 * (queue + n) ≤ length (now file)) ⌝ }
     ensures { λ _. ⌜ ((t : Tables) → now (m .entry) ≡ laid t → i < length (t .slots) → queueOf t i ≡ []
-        → now (m .exit) ≡ laid (withSlots t (set (t .slots) i (slotOfRow (rowAt (now (file .entry)) at 7) (rowAt (now (file .entry)) queue n))))) ⌝ }
+        → now (m .exit) ≡ laid (withSlots t (set (t .slots) i
+        (slotOfRow edition (rowAt (now (file .entry)) at (slotNumbers edition 1)) (rowAt (now (file .entry)) queue n))))) ⌝ }
 {
-    let s = head_in(file, at);
+    let s = head_in(file, edition, at);
     tables::store_head(m, i, s);
     fill_queue(m, i, file, queue, n);
 }
 
 // The slots with their queues, over tables that have as many, all free. Whether the queues end where the contents say.
-fn fill_slots(m: &mut [u8], file: &[u8], slots: usize, at: usize, queues: usize, end: usize) -> bool
-    requires { ⌜ (length (now m) ≡ tablesLength) × (slots ≤ 64) × (4 * (at + 7 * slots) ≤ length (now file))
+fn fill_slots(
+    m: &mut [u8],
+    file: &[u8],
+    edition: u32,
+    slots: usize,
+    at: usize,
+    queues: usize,
+    end: usize,
+) -> bool
+    requires { ⌜ (length (now m) ≡ tablesLength) × (slots ≤ 64) × (4 * (at + slotNumbers edition slots) ≤ length (now file))
         × (queues ≤ end) × (4 * end ≤ length (now file)) ⌝ }
     ensures { λ r. ⌜ (r ≡ queuesFit (now (file .entry)) slots queues end)
         × ((t : Tables) → now (m .entry) ≡ laid t → t .slots ≡ replicate slots (freeSlot 0) → r ≡ true
-        → now (m .exit) ≡ laid (withSlots t (slotsFrom (now (file .entry)) slots at queues))) ⌝ }
+        → now (m .exit) ≡ laid (withSlots t (slotsFrom (now (file .entry)) edition slots at queues))) ⌝ }
 {
     let mut queue = queues;
     let mut i = 0;
@@ -104,7 +129,8 @@ fn fill_slots(m: &mut [u8], file: &[u8], slots: usize, at: usize, queues: usize,
         if end < queue + 1 + waiters {
             return false;
         }
-        fill_slot(m, i, file, at + 7 * i, queue + 1, waiters);
+        let numbers = contents::slot_numbers(edition, i as u32) as usize;
+        fill_slot(m, i, file, edition, at + numbers, queue + 1, waiters);
         queue = queue + 1 + waiters;
         i += 1;
     }
@@ -136,6 +162,7 @@ fn fill(m: &mut [u8], file: &[u8]) -> bool
     if !fill_slots(
         m,
         file,
+        c.edition,
         c.slots as usize,
         contents::slots_start(c),
         contents::queues_start(c),

@@ -9,19 +9,20 @@ ghost use Rattle.rules.specs.Machine.{freeSlot};
 ghost use Rattle.tables.specs.Layout.{modelOf};
 ghost use Rattle.tables.specs.Sizes.{Bounded};
 ghost use Rattle.calls.specs.Agreeing.{Agreeing};
-ghost use Rattle.state.specs.File.{tasksBody, slotsBody, queueRow, queuesBody, stateFile};
+ghost use Rattle.state.specs.File.{secondEdition, tasksBody, slotsBody, queueRow, queuesBody, stateFile};
 ghost use Rattle.state.specs.Reading.{fileEnd};
 ghost use Rattle.state.specs.Shape.{Small, countsOf, HasRoom, Written};
 
 // Each task stands once, in a queue or among those that are ready: so the queues hold the tasks that are not ready.
 pub fn counts_of(m: &[u8]) -> Counts
     requires { ⌜ Agreeing (now m) ⌝ }
-    ensures { λ r. ⌜ r ≡ countsOf (modelOf (now (m .entry))) ⌝ }
+    ensures { λ r. ⌜ r ≡ countsOf secondEdition (modelOf (now (m .entry))) ⌝ }
 {
     let tasks = tables::task_count(m);
     let slots = tables::slot_count(m);
     let ready = tables::ready_count(m);
     Counts {
+        edition: contents::SECOND_EDITION,
         tasks,
         slots,
         queues: slots + (tasks - ready),
@@ -44,8 +45,8 @@ fn write_tasks(m: &[u8], file: &mut [u8], at: usize)
 }
 
 fn write_slots(m: &[u8], file: &mut [u8], at: usize)
-    requires { ⌜ Bounded (now m) × HasRoom at (slotsBody (modelOf (now m))) (now file) ⌝ }
-    ensures { λ _. ⌜ Written at (slotsBody (modelOf (now (m .entry)))) (now (file .entry)) (now (file .exit)) ⌝ }
+    requires { ⌜ Bounded (now m) × HasRoom at (slotsBody secondEdition (modelOf (now m))) (now file) ⌝ }
+    ensures { λ _. ⌜ Written at (slotsBody secondEdition (modelOf (now (m .entry)))) (now (file .entry)) (now (file .exit)) ⌝ }
 {
     let slots = tables::slot_count(m) as usize;
     let mut i = 0;
@@ -59,8 +60,9 @@ fn write_slots(m: &[u8], file: &mut [u8], at: usize)
             s.count,
             s.owner,
             s.nest,
+            s.maximum,
         ];
-        words::set_words(file, at + 7 * i, &row);
+        words::set_words(file, at + 8 * i, &row);
         i += 1;
     }
 }
@@ -110,7 +112,7 @@ fn write_ready(m: &[u8], file: &mut [u8], at: usize)
 
 // The whole file, at the buffer's front.
 pub fn write(m: &[u8], file: &mut [u8], c: Counts)
-    requires { ⌜ Bounded (now m) × Small c × (c ≡ countsOf (modelOf (now m))) × (4 * fileEnd c ≤ length (now file)) ⌝ }
+    requires { ⌜ Bounded (now m) × Small c × (c ≡ countsOf secondEdition (modelOf (now m))) × (4 * fileEnd c ≤ length (now file)) ⌝ }
     ensures { λ _. ⌜ now (file .exit) ≡ sets (now (file .entry)) 0 (stateFile (modelOf (now (m .entry)))) ⌝ }
 {
     contents::write(file, c);

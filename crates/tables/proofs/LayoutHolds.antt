@@ -33,16 +33,18 @@ task-row-words v p a w t (suc (suc (suc zero))) = t
 task-row-words v p a w t (suc (suc (suc (suc k)))) = omega arith
 
 pub slot-row-words : (s : Slot) → s .generation < 4294967296 → s .live < 4294967296 → s .name < 4294967296 → s .attributes < 4294967296
-    → s .count < 4294967296 → s .owner < 4294967296 → s .nest < 4294967296 → length (s .queue) ≤ 32 → Words (s .queue) → Words (slotRow s)
-slot-row-words s g l n a c o e few q zero = g
-slot-row-words s g l n a c o e few q (suc zero) = l
-slot-row-words s g l n a c o e few q (suc (suc zero)) = n
-slot-row-words s g l n a c o e few q (suc (suc (suc zero))) = a
-slot-row-words s g l n a c o e few q (suc (suc (suc (suc zero)))) = c
-slot-row-words s g l n a c o e few q (suc (suc (suc (suc (suc zero))))) = o
-slot-row-words s g l n a c o e few q (suc (suc (suc (suc (suc (suc zero)))))) = e
-slot-row-words s g l n a c o e few q (suc (suc (suc (suc (suc (suc (suc zero))))))) = omega arith
-slot-row-words s g l n a c o e few q (suc (suc (suc (suc (suc (suc (suc (suc k)))))))) =
+    → s .count < 4294967296 → s .owner < 4294967296 → s .nest < 4294967296 → s .maximum < 4294967296
+    → length (s .queue) ≤ 32 → Words (s .queue) → Words (slotRow s)
+slot-row-words s g l n a c o e m few q zero = g
+slot-row-words s g l n a c o e m few q (suc zero) = l
+slot-row-words s g l n a c o e m few q (suc (suc zero)) = n
+slot-row-words s g l n a c o e m few q (suc (suc (suc zero))) = a
+slot-row-words s g l n a c o e m few q (suc (suc (suc (suc zero)))) = c
+slot-row-words s g l n a c o e m few q (suc (suc (suc (suc (suc zero))))) = o
+slot-row-words s g l n a c o e m few q (suc (suc (suc (suc (suc (suc zero)))))) = e
+slot-row-words s g l n a c o e m few q (suc (suc (suc (suc (suc (suc (suc zero))))))) = m
+slot-row-words s g l n a c o e m few q (suc (suc (suc (suc (suc (suc (suc (suc zero)))))))) = omega arith
+slot-row-words s g l n a c o e m few q (suc (suc (suc (suc (suc (suc (suc (suc (suc k))))))))) =
     words-within 32 (fit 32 0 (s .queue)) (length-fit 32 0 (s .queue)) (λ k b. rw (getD-fit 32 0 (s .queue) k b) (q k)) k
 
 pub holds-rows : (t : Tables) → length (t .tasks) ≤ 32 → length (t .slots) ≤ 64 → length (t .ready) ≤ 32
@@ -52,9 +54,9 @@ pub holds-rows : (t : Tables) → length (t .tasks) ≤ 32 → length (t .slots)
     → Words (t .ready)
     → Holds t
 holds-rows t n m r q v s w =
-    record { limited = record { tasks = n; slots = m; ready = r; queues = q }; words = words-within 2723 (layout t) (length-layout t) within }
+    record { limited = record { tasks = n; slots = m; ready = r; queues = q }; words = words-within 2787 (layout t) (length-layout t) within }
   where
-    within : (k : ℕ) → k < 2723 → getD (layout t) k 0 < 4294967296
+    within : (k : ℕ) → k < 2787 → getD (layout t) k 0 < 4294967296
     within =
         by-place (λ k. getD (layout t) k 0 < 4294967296) (unfold layout in omega arith) (unfold layout in omega arith)
         (λ i j l b. rw (task-word t i j l b) (v i j))

@@ -41,14 +41,14 @@ task-row : (bs : List ℕ) (i : ℕ) → taskRow (taskAt bs i) ≡ rowAt bs (tas
 unfolding taskAt tabulate
 task-row bs i = refl
 
-slot-row : (bs : List ℕ) (i : ℕ) → recordRow (recordAt bs i) ≡ rowAt bs (slotPlace i) 40
+slot-row : (bs : List ℕ) (i : ℕ) → recordRow (recordAt bs i) ≡ rowAt bs (slotPlace i) 41
 unfolding recordAt tabulate
 slot-row bs i = refl
 
 -- the queue stands behind the eight words of the head
-pub queue-word : (s : Semaphore) (k : ℕ) → getD (recordRow s) (8 + k) 0 ≡ getD (s .queue) k 0
+pub queue-word : (s : Semaphore) (k : ℕ) → getD (recordRow s) (9 + k) 0 ≡ getD (s .queue) k 0
 queue-word s k =
-    let e : 8 + k ≡ suc (suc (suc (suc (suc (suc (suc (suc k))))))) = omega arith in
+    let e : 9 + k ≡ suc (suc (suc (suc (suc (suc (suc (suc (suc k)))))))) = omega arith in
     ap (λ (n : ℕ). getD (recordRow s) n 0) e
 
 module _ (bs : List ℕ) (i : ℕ) where
@@ -56,31 +56,31 @@ module _ (bs : List ℕ) (i : ℕ) where
   pub task-word-at : (k : ℕ) → k < 4 → wordAt bs (taskPlace i + k) ≡ getD (taskRow (taskAt bs i)) k 0
   task-word-at k l = sym (ap (λ (r : List ℕ). getD r k 0) (task-row bs i) ∙ getD-tabulate 4 (λ j. wordAt bs (taskPlace i + j)) k 0 l)
 
-  pub slot-word-at : (k : ℕ) → k < 40 → wordAt bs (slotPlace i + k) ≡ getD (recordRow (recordAt bs i)) k 0
-  slot-word-at k l = sym (ap (λ (r : List ℕ). getD r k 0) (slot-row bs i) ∙ getD-tabulate 40 (λ j. wordAt bs (slotPlace i + j)) k 0 l)
+  pub slot-word-at : (k : ℕ) → k < 41 → wordAt bs (slotPlace i + k) ≡ getD (recordRow (recordAt bs i)) k 0
+  slot-word-at k l = sym (ap (λ (r : List ℕ). getD r k 0) (slot-row bs i) ∙ getD-tabulate 41 (λ j. wordAt bs (slotPlace i + j)) k 0 l)
 
-  pub queue-word-at : (k : ℕ) → k < 32 → wordAt bs (slotPlace i + 8 + k) ≡ getD (recordAt bs i .queue) k 0
-  queue-word-at k l = ap (wordAt bs) (omega arith) ∙ slot-word-at (8 + k) (omega arith) ∙ queue-word (recordAt bs i) k
+  pub queue-word-at : (k : ℕ) → k < 32 → wordAt bs (slotPlace i + 9 + k) ≡ getD (recordAt bs i .queue) k 0
+  queue-word-at k l = ap (wordAt bs) (omega arith) ∙ slot-word-at (9 + k) (omega arith) ∙ queue-word (recordAt bs i) k
 
   pub queue-places : length (recordAt bs i .queue) ≡ 32
-  queue-places = omega (arith, ap length (slot-row bs i), length-tabulate 40 (λ j. wordAt bs (slotPlace i + j)))
+  queue-places = omega (arith, ap length (slot-row bs i), length-tabulate 41 (λ j. wordAt bs (slotPlace i + j)))
 
 -- a slot's record is the same in bytes that are cut behind its row
 pub record-cut : (bs : List ℕ) (n i : ℕ) → 4 * slotPlace (i + 1) ≤ n → recordAt (take n bs) i ≡ recordAt bs i
 unfolding recordAt
 record-cut bs n i h =
     ap (λ (row : List ℕ). recordFrom row)
-    (tabulate-same 40 (λ k. wordAt (take n bs) (slotPlace i + k)) (λ k. wordAt bs (slotPlace i + k)) (λ k l. wordAt-cut bs n (slotPlace i + k) (omega arith)))
+    (tabulate-same 41 (λ k. wordAt (take n bs) (slotPlace i + k)) (λ k. wordAt bs (slotPlace i + k)) (λ k l. wordAt-cut bs n (slotPlace i + k) (omega arith)))
 
 -- the places of the sequence of ready tasks
 module _ (bs : List ℕ) where
   pub sequence-word-at : (k : ℕ) → k < 32 → wordAt bs (sequencePlace k) ≡ getD (sequenceAt bs) k 0
   unfolding sequenceAt
-  sequence-word-at k l = sym (getD-tabulate 32 (λ j. wordAt bs (2691 + j)) k 0 l)
+  sequence-word-at k l = sym (getD-tabulate 32 (λ j. wordAt bs (2755 + j)) k 0 l)
 
   pub sequence-places : length (sequenceAt bs) ≡ 32
   unfolding sequenceAt
-  sequence-places = length-tabulate 32 (λ j. wordAt bs (2691 + j))
+  sequence-places = length-tabulate 32 (λ j. wordAt bs (2755 + j))
 
   pub sequence-below : Bytes bs → Words (sequenceAt bs)
   sequence-below b =
@@ -104,7 +104,7 @@ module _ (bs : List ℕ) (b : Bytes bs) (i : ℕ) where
 
   pub record-below : Words (recordRow (recordAt bs i))
   record-below =
-      words-within 40 (recordRow (recordAt bs i)) (omega (arith, queue-places bs i))
+      words-within 41 (recordRow (recordAt bs i)) (omega (arith, queue-places bs i))
       (λ k l. rw (← slot-word-at bs i k l) (wordAt-below bs b (slotPlace i + k)))
 
 -- ---- a row reads back: a task's as `taskFrom (taskRow v)` computes, a slot's with its queue within 32 places
@@ -139,7 +139,7 @@ module _ (t : Tables) (w : Words (layout t)) where
   unfolding recordAt
   record-laid i l =
       let s : Slot = getD (t .slots) i (freeSlot 0) in
-      ap {B = Semaphore} recordFrom (row-laid (slotPlace i) 40 (slotRow s) (length-slotRow s) (λ j b. slot-word t i j l b))
+      ap {B = Semaphore} recordFrom (row-laid (slotPlace i) 41 (slotRow s) (length-slotRow s) (λ j b. slot-word t i j l b))
 
   pub ready-laid : wordAt (laid t) readyPlace ≡ length (t .ready)
   ready-laid = word-laid readyPlace ∙ ready-word t

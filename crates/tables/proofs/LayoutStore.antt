@@ -26,7 +26,7 @@ use Rattle.tables.proofs.LayoutRead.{length-laid, laid-words, record-la
 use Rattle.tables.proofs.LoadStore.{headRow}
 
 -- a row stored in the bytes is stored in the words
-store-words : (t : Tables) (k : ℕ) (r : List ℕ) → k + length r ≤ 2723 → sets (laid t) (4 * k) (bytesOf r) ≡ bytesOf (sets (layout t) k r)
+store-words : (t : Tables) (k : ℕ) (r : List ℕ) → k + length r ≤ 2787 → sets (laid t) (4 * k) (bytesOf r) ≡ bytesOf (sets (layout t) k r)
 unfolding laid
 store-words t k r h = sets-bytesOf (layout t) k r (omega (arith, length-layout t))
 
@@ -55,7 +55,7 @@ pub record-row : (s : Semaphore) → Padded s → recordRow s ≡ slotRow (slotF
 record-row s p =
     let n : length (s .queue) ≡ 32 = ap length (p .filled) ∙ length-fit 32 0 (take (s .waiters) (s .queue)) in
     let w : s .waiters ≡ length (take (s .waiters) (s .queue)) = sym (length-take-le (s .waiters) (s .queue) (omega (arith, p .few))) in
-    λ k. s .generation ∷ s .live ∷ s .name ∷ s .attributes ∷ s .count ∷ s .owner ∷ s .nest ∷ w k ∷ p .filled k
+    λ k. s .generation ∷ s .live ∷ s .name ∷ s .attributes ∷ s .count ∷ s .owner ∷ s .nest ∷ s .maximum ∷ w k ∷ p .filled k
 
 pub store-slot-laid : (t : Tables) (i : ℕ) (s : Semaphore) → i < 64 → i < length (t .slots) → Padded s
     → sets (laid t) (4 * slotPlace i) (bytesOf (recordRow s)) ≡ laid (withSlots t (set (t .slots) i (slotFrom s)))
@@ -86,7 +86,7 @@ module _ (t : Tables) (i : ℕ) (l : i < 64) (h : i < length (t .slots)) where
   own-stored : laid t ≡ stored (slotRow slot)
   own-stored = sym (store-slot-row t i slot l h ∙ ap (λ (ss : List Slot). laid (withSlots t ss)) (set-getD (t .slots) i (freeSlot 0)))
 
-  part-stored : (p k : ℕ) (row vs : List ℕ) → p ≡ slotPlace i + k → length row ≡ 40 → k + length vs ≤ 40
+  part-stored : (p k : ℕ) (row vs : List ℕ) → p ≡ slotPlace i + k → length row ≡ 41 → k + length vs ≤ 41
       → sets (stored row) (4 * p) (bytesOf vs) ≡ stored (sets row k vs)
   part-stored p k row vs e n b =
       let place : 4 * p ≡ 4 * slotPlace i + 4 * k = omega (arith, e) in
@@ -97,7 +97,7 @@ module _ (t : Tables) (i : ℕ) (l : i < 64) (h : i < length (t .slots)) where
 
   head-row : (s : Head) → s .waiters ≡ length (slot .queue) → sets (slotRow slot) 0 (headRow s) ≡ slotRow (slotWith s (slot .queue))
   head-row s w =
-      ap (λ (n : ℕ). s .generation ∷ s .live ∷ s .name ∷ s .attributes ∷ s .count ∷ s .owner ∷ s .nest ∷ n ∷ fit 32 0 (slot .queue)) w
+      ap (λ (n : ℕ). s .generation ∷ s .live ∷ s .name ∷ s .attributes ∷ s .count ∷ s .owner ∷ s .nest ∷ s .maximum ∷ n ∷ fit 32 0 (slot .queue)) w
 
   head-laid : (s : Head) → s .waiters ≡ length (slot .queue)
       → sets (laid t) (4 * slotPlace i) (bytesOf (headRow s)) ≡ laid (withSlots t (set (t .slots) i (slotWith s (slot .queue))))
@@ -109,24 +109,26 @@ module _ (t : Tables) (i : ℕ) (l : i < 64) (h : i < length (t .slots)) where
 
   -- a number behind the last of the queue, and then the length
   waiter-row : (q : ℕ) → length (slot .queue) < 32
-      → sets (sets (slotRow slot) (8 + length (slot .queue)) (q ∷ [])) 7 ((length (slot .queue) + 1) ∷ []) ≡ slotRow (requeued slot (slot .queue ++ q ∷ []))
+      → sets (sets (slotRow slot) (9 + length (slot .queue)) (q ∷ [])) 8 ((length (slot .queue) + 1) ∷ []) ≡ slotRow (requeued slot (slot .queue ++ q ∷ []))
   waiter-row q few =
-      let place : 8 + length (slot .queue) ≡ suc (suc (suc (suc (suc (suc (suc (suc (length (slot .queue))))))))) = omega arith in
+      let place : 9 + length (slot .queue) ≡ suc (suc (suc (suc (suc (suc (suc (suc (suc (length (slot .queue)))))))))) = omega arith in
       let count : length (slot .queue) + 1 ≡ length (slot .queue ++ q ∷ []) = sym (length-append (slot .queue) (q ∷ [])) in
-      ap (λ (k : ℕ). sets (sets (slotRow slot) k (q ∷ [])) 7 ((length (slot .queue) + 1) ∷ [])) place
-      ∙ ap₂ (λ (n : ℕ) (x : List ℕ). slot .generation ∷ slot .live ∷ slot .name ∷ slot .attributes ∷ slot .count ∷ slot .owner ∷ slot .nest ∷ n ∷ x) count
+      ap (λ (k : ℕ). sets (sets (slotRow slot) k (q ∷ [])) 8 ((length (slot .queue) + 1) ∷ [])) place
+      ∙ ap₂
+      (λ (n : ℕ) (x : List ℕ). slot .generation ∷ slot .live ∷ slot .name ∷ slot .attributes ∷ slot .count ∷ slot .owner ∷ slot .nest ∷ slot .maximum ∷ n ∷ x)
+      count
       (set-fit-end 32 0 (slot .queue) q few)
 
-  waiter-laid : (p r n q : ℕ) → length (slot .queue) < 32 → n ≡ length (slot .queue) → p ≡ slotPlace i + (8 + n) → r ≡ slotPlace i + 7
+  waiter-laid : (p r n q : ℕ) → length (slot .queue) < 32 → n ≡ length (slot .queue) → p ≡ slotPlace i + (9 + n) → r ≡ slotPlace i + 8
       → sets (sets (laid t) (4 * p) (bytesOfWord q)) (4 * r) (bytesOfWord (n + 1))
       ≡ laid (withSlots t (set (t .slots) i (requeued slot (slot .queue ++ q ∷ []))))
   unfolding bytesOf
   waiter-laid p r n q few c ep er =
-      let row : List ℕ = sets (slotRow slot) (8 + n) (q ∷ []) in
+      let row : List ℕ = sets (slotRow slot) (9 + n) (q ∷ []) in
       ap (λ (x : List ℕ). sets (sets x (4 * p) (bytesOfWord q)) (4 * r) (bytesOfWord (n + 1))) own-stored
-      ∙ ap (λ (x : List ℕ). sets x (4 * r) (bytesOfWord (n + 1))) (part-stored p (8 + n) (slotRow slot) (q ∷ []) ep (length-slotRow slot) (omega arith))
-      ∙ part-stored r 7 row ((n + 1) ∷ []) er (length-sets (slotRow slot) (8 + n) (q ∷ []) ∙ length-slotRow slot) (omega arith)
-      ∙ ap (λ (j : ℕ). stored (sets (sets (slotRow slot) (8 + j) (q ∷ [])) 7 ((j + 1) ∷ []))) c
+      ∙ ap (λ (x : List ℕ). sets x (4 * r) (bytesOfWord (n + 1))) (part-stored p (9 + n) (slotRow slot) (q ∷ []) ep (length-slotRow slot) (omega arith))
+      ∙ part-stored r 8 row ((n + 1) ∷ []) er (length-sets (slotRow slot) (9 + n) (q ∷ []) ∙ length-slotRow slot) (omega arith)
+      ∙ ap (λ (j : ℕ). stored (sets (sets (slotRow slot) (9 + j) (q ∷ [])) 8 ((j + 1) ∷ []))) c
       ∙ ap stored (waiter-row q few)
       ∙ store-slot-row t i (requeued slot (slot .queue ++ q ∷ [])) l h
 
@@ -145,14 +147,14 @@ module _ (m : List ℕ) (i q waiters : ℕ) (l : i < 64) (b : Bytes m) (c : wait
   pub queue-full : 32 ≤ waiters → m ≡ laid (withSlots t (set (t .slots) i (requeued (getD (t .slots) i (freeSlot 0)) (queueOf t i ++ q ∷ []))))
   queue-full o = absurd (omega (arith, waiting))
 
-  pub waiter-added : (m₁ m₂ : List ℕ) → m₁ ≡ sets m (4 * (slotPlace i + 8 + waiters)) (bytesOfWord q)
-      → m₂ ≡ sets m₁ (4 * (slotPlace i + 7)) (bytesOfWord (waiters + 1))
+  pub waiter-added : (m₁ m₂ : List ℕ) → m₁ ≡ sets m (4 * (slotPlace i + 9 + waiters)) (bytesOfWord q)
+      → m₂ ≡ sets m₁ (4 * (slotPlace i + 8)) (bytesOfWord (waiters + 1))
       → m₂ ≡ laid (withSlots t (set (t .slots) i (requeued (getD (t .slots) i (freeSlot 0)) (queueOf t i ++ q ∷ []))))
   waiter-added m₁ m₂ w₁ w₂ =
       w₂
-      ∙ ap (λ (x : List ℕ). sets x (4 * (slotPlace i + 7)) (bytesOfWord (waiters + 1)))
-      (w₁ ∙ ap (λ (x : List ℕ). sets x (4 * (slotPlace i + 8 + waiters)) (bytesOfWord q)) e)
-      ∙ waiter-laid t i l h (slotPlace i + 8 + waiters) (slotPlace i + 7) waiters q few waiting (omega arith) refl
+      ∙ ap (λ (x : List ℕ). sets x (4 * (slotPlace i + 8)) (bytesOfWord (waiters + 1)))
+      (w₁ ∙ ap (λ (x : List ℕ). sets x (4 * (slotPlace i + 9 + waiters)) (bytesOfWord q)) e)
+      ∙ waiter-laid t i l h (slotPlace i + 9 + waiters) (slotPlace i + 8) waiters q few waiting (omega arith) refl
 
 -- ---- the sequence of ready tasks
 
@@ -185,7 +187,7 @@ module _ (t : Tables) where
       let first : sets (layout t) (sequencePlace k) (v ∷ []) ≡ row (length (t .ready) ∷ fit 32 0 qs) =
       set-place k v ∙ ap (λ (x : List ℕ). row (length (t .ready) ∷ x)) e
       in
-      let long : length (row (length (t .ready) ∷ fit 32 0 qs)) ≡ 2723 =
+      let long : length (row (length (t .ready) ∷ fit 32 0 qs)) ≡ 2787 =
       length-words (taskPlaces t) (slotPlaces t) (tasks-long t) (slots-long t) (length (t .tasks)) (length (t .slots)) (length (t .ready) ∷ fit 32 0 qs)
       (omega (arith, length-fit 32 0 qs))
       in
@@ -241,9 +243,9 @@ module _ (m : List ℕ) (count : ℕ) (b : Bytes m) (c : count ≡ wordAt m read
 -- before the start every byte is 0
 pub laid-unstarted : laid unstarted ≡ replicate tablesLength 0
 unfolding laid
-laid-unstarted = ap bytesOf zeros ∙ bytesOf-zeros 2723
+laid-unstarted = ap bytesOf zeros ∙ bytesOf-zeros 2787
   where
-    zero-word : (k : ℕ) → k < 2723 → getD (layout unstarted) k 0 ≡ 0
+    zero-word : (k : ℕ) → k < 2787 → getD (layout unstarted) k 0 ≡ 0
     zero-word =
         by-place (λ k. getD (layout unstarted) k 0 ≡ 0) (unfold layout in refl) (unfold layout in refl)
         (λ i j l b. task-word unstarted i j l b ∙ getD-same 4 0 j)
@@ -251,10 +253,10 @@ laid-unstarted = ap bytesOf zeros ∙ bytesOf-zeros 2723
         (ready-word unstarted)
         (λ k b. sequence-word unstarted k b)
 
-    zeros : layout unstarted ≡ replicate 2723 0
+    zeros : layout unstarted ≡ replicate 2787 0
     zeros =
-        ext-getD 0 (layout unstarted) (replicate 2723 0) (length-layout unstarted ∙ sym (length-replicate {A = ℕ} 2723 0))
-        (λ k l. zero-word k (omega (arith, length-layout unstarted)) ∙ sym (getD-same 2723 0 k))
+        ext-getD 0 (layout unstarted) (replicate 2787 0) (length-layout unstarted ∙ sym (length-replicate {A = ℕ} 2787 0))
+        (λ k l. zero-word k (omega (arith, length-layout unstarted)) ∙ sym (getD-same 2787 0 k))
 
 pub zeros-laid : (m : List ℕ) → length m ≡ tablesLength → ((k : ℕ) → k < tablesLength → getD m k 0 ≡ 0) → m ≡ laid unstarted
 zeros-laid m e h =

@@ -68,7 +68,7 @@ module _ (t : Tables) (h : Holds t) where
       let n : wordAt (laid t) readyPlace ≡ length (t .ready) = laid-ready t h in
       let few = h .limited .ready in
       both-and (le-leb (wordAt (laid t) readyPlace) 32 (omega arith))
-      (blank-of (laid t) (sequencePlace (wordAt (laid t) readyPlace)) 2723 λ k l b.
+      (blank-of (laid t) (sequencePlace (wordAt (laid t) readyPlace)) 2787 λ k l b.
       let j : ℕ = k - sequencePlace 0 in
       ap (wordAt (laid t)) (omega arith)
       ∙ word-laid t (h .words) (sequencePlace j)
@@ -83,8 +83,8 @@ module _ (t : Tables) (h : Holds t) where
       let r = record-laid t (h .words) i l in
       let w : recordAt (laid t) i .waiters ≡ length q = ap (λ (s : Semaphore). s .waiters) r in
       both-and (le-leb (recordAt (laid t) i .waiters) 32 (omega arith))
-      (blank-of (laid t) (slotPlace i + 8 + recordAt (laid t) i .waiters) (slotPlace i + 40) λ k a b.
-      let j : ℕ = k - (slotPlace i + 8) in
+      (blank-of (laid t) (slotPlace i + 9 + recordAt (laid t) i .waiters) (slotPlace i + 41) λ k a b.
+      let j : ℕ = k - (slotPlace i + 9) in
       ap (wordAt (laid t)) (omega arith)
       ∙ queue-word-at (laid t) i j (omega arith)
       ∙ ap (λ (s : Semaphore). getD (s .queue) j 0) r
@@ -114,7 +114,7 @@ record Passed (bs : List ℕ) : Type 0 where
   queues : (i : ℕ) → i < wordAt bs 1 → isQueueLaid bs i ≡ true
   past-slots : (k : ℕ) → slotPlace (wordAt bs 1) ≤ k → k < readyPlace → wordAt bs k ≡ 0
   few-ready : wordAt bs readyPlace ≤ 32
-  past-ready : (k : ℕ) → sequencePlace (wordAt bs readyPlace) ≤ k → k < 2723 → wordAt bs k ≡ 0
+  past-ready : (k : ℕ) → sequencePlace (wordAt bs readyPlace) ≤ k → k < 2787 → wordAt bs k ≡ 0
 
 passed : (bs : List ℕ) → isLaid bs ≡ true → Passed bs
 unfolding isLaid isSequenceLaid
@@ -134,7 +134,7 @@ passed bs e =
       queues = all-at (wordAt bs 1) (isQueueLaid bs) (f .0);
       past-slots = blank-at bs (slotPlace (wordAt bs 1)) readyPlace (g .0);
       few-ready = leb-true (wordAt bs readyPlace) 32 (h .0);
-      past-ready = blank-at bs (sequencePlace (wordAt bs readyPlace)) 2723 (h .1);
+      past-ready = blank-at bs (sequencePlace (wordAt bs readyPlace)) 2787 (h .1);
     }
 
 -- so the bytes can be read
@@ -161,10 +161,10 @@ module _ (bs : List ℕ) (p : Passed bs) where
       (λ h. ap {B = Task} taskFrom (row-zero bs (taskPlace i) 4 (λ j b. p .past-tasks (taskPlace i + j) (omega arith) (omega arith))))
 
   module _ (i : ℕ) (l : i < 64) where
-    past-slot : wordAt bs 1 ≤ i → recordAt bs i ≡ recordFrom (replicate 40 0)
+    past-slot : wordAt bs 1 ≤ i → recordAt bs i ≡ recordFrom (replicate 41 0)
     unfolding recordAt
     past-slot h =
-        ap {B = Semaphore} recordFrom (row-zero bs (slotPlace i) 40 (λ j b. p .past-slots (slotPlace i + j) (omega arith) (omega arith)))
+        ap {B = Semaphore} recordFrom (row-zero bs (slotPlace i) 41 (λ j b. p .past-slots (slotPlace i + j) (omega arith) (omega arith)))
 
     -- the slot of the model at any place
     slot-there : getD (modelOf bs .slots) i (freeSlot 0) ≡ slotFrom (recordAt bs i)
@@ -182,7 +182,7 @@ module _ (bs : List ℕ) (p : Passed bs) where
             let behind : (k : ℕ) → w ≤ k → k < 32 → getD (recordAt bs i .queue) k 0 ≡ 0 =
             λ k a b.
             sym (queue-word-at bs i k b)
-            ∙ blank-at bs (slotPlace i + 8 + w) (slotPlace i + 40) (and-both _ _ e .1) (slotPlace i + 8 + k) (omega arith) (omega arith)
+            ∙ blank-at bs (slotPlace i + 9 + w) (slotPlace i + 41) (and-both _ _ e .1) (slotPlace i + 9 + k) (omega arith) (omega arith)
             in
             record { few = leb-true w 32 (a .0); filled = fit-take 32 0 w (recordAt bs i .queue) (queue-places bs i) behind }
 
@@ -200,7 +200,7 @@ module _ (bs : List ℕ) (p : Passed bs) where
           List·getD-eq-default (modelOf bs .ready) 0 (omega arith) ∙ sym (p .past-ready (sequencePlace k) (omega arith) (omega arith))
 
   -- each word is that of the layout
-  words-read : (k : ℕ) → k < 2723 → getD (layout (modelOf bs)) k 0 ≡ wordAt bs k
+  words-read : (k : ℕ) → k < 2787 → getD (layout (modelOf bs)) k 0 ≡ wordAt bs k
   words-read =
       by-place (λ k. getD (layout (modelOf bs)) k 0 ≡ wordAt bs k)
       (unfold layout modelOf in length-tabulate (wordAt bs 0) (taskAt bs))
@@ -238,8 +238,8 @@ module _ (bs : List ℕ) (b : Bytes bs) where
   pub laid-modelOf : isLaid bs ≡ true → bs ≡ laid (modelOf bs)
   unfolding laid
   laid-modelOf e =
-      bytes-words 2723 bs b (passed bs e .size)
-      ∙ ap bytesOf (sym (tabulate-is 2723 (wordAt bs) (layout (modelOf bs)) 0 (length-layout (modelOf bs)) (words-read bs (passed bs e))))
+      bytes-words 2787 bs b (passed bs e .size)
+      ∙ ap bytesOf (sym (tabulate-is 2787 (wordAt bs) (layout (modelOf bs)) 0 (length-layout (modelOf bs)) (words-read bs (passed bs e))))
 
   pub holds-modelOf : isLaid bs ≡ true → Holds (modelOf bs)
   holds-modelOf e = limited-holds (modelOf bs) (model-limited bs (passed bs e)) (subst Bytes (laid-modelOf e) b)

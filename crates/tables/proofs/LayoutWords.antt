@@ -17,13 +17,13 @@ use Rattle.tables.specs.Layout.{taskPlace, slotPlace, readyPlace, sequen
 
 -- ---- rows
 
-pub length-slotRow : (s : Slot) → length (slotRow s) ≡ 40
+pub length-slotRow : (s : Slot) → length (slotRow s) ≡ 41
 length-slotRow s = omega (arith, length-fit 32 0 (s .queue))
 
 -- what stands past the last slot is 0
 pub no-slot-word : (j : ℕ) → getD (slotRow (freeSlot 0)) j 0 ≡ 0
 no-slot-word j =
-    ap (λ (q : List ℕ). getD (0 ∷ 0 ∷ 0 ∷ 0 ∷ 0 ∷ 0 ∷ 0 ∷ 0 ∷ q) j 0) (fit-none {A = ℕ} 32 0) ∙ getD-same 40 0 j
+    ap (λ (q : List ℕ). getD (0 ∷ 0 ∷ 0 ∷ 0 ∷ 0 ∷ 0 ∷ 0 ∷ 0 ∷ 0 ∷ q) j 0) (fit-none {A = ℕ} 32 0) ∙ getD-same 41 0 j
 
 -- the length of the sequence of ready tasks, and its 32 places
 abbrev pub sequenceRow : List ℕ → List ℕ
@@ -41,13 +41,13 @@ module _ (ts : List Task) (ss : List Slot) (e : length ts ≡ 32) (f : length ss
   wide-tasks : AllWide 4 (map taskRow ts)
   wide-tasks = wide-map 4 taskRow (λ v. refl) ts
 
-  wide-slots : AllWide 40 (map slotRow ss)
-  wide-slots = wide-map 40 slotRow length-slotRow ss
+  wide-slots : AllWide 41 (map slotRow ss)
+  wide-slots = wide-map 41 slotRow length-slotRow ss
 
   length-tasks : length (rows (map taskRow ts)) ≡ 128
   length-tasks = omega (arith, length-rows (map taskRow ts) wide-tasks, length-map ts taskRow)
 
-  length-slots : length (rows (map slotRow ss)) ≡ 2560
+  length-slots : length (rows (map slotRow ss)) ≡ 2624
   length-slots = omega (arith, length-rows (map slotRow ss) wide-slots, length-map ss slotRow)
 
   -- what stands before the slots, and before the sequence
@@ -61,7 +61,7 @@ module _ (ts : List Task) (ss : List Slot) (e : length ts ≡ 32) (f : length ss
   unfolding ahead
   length-ahead = omega (arith, length-append (rows (map taskRow ts)) (rows (map slotRow ss)), length-tasks, length-slots)
 
-  pub length-words : length row ≡ 33 → length (words n m ts ss row) ≡ 2723
+  pub length-words : length row ≡ 33 → length (words n m ts ss row) ≡ 2787
   unfolding ahead
   length-words h = omega (arith, length-append ahead row, length-ahead)
 
@@ -85,7 +85,7 @@ module _ (ts : List Task) (ss : List Slot) (e : length ts ≡ 32) (f : length ss
         (omega arith) l
         ∙ ap (λ (r : List ℕ). getD r j 0) (getD-map taskRow ts i noTask [] (omega arith))
 
-    getD-slot : (j : ℕ) → i < 64 → j < 40 → getD (words n m ts ss row) (slotPlace i + j) 0 ≡ getD (slotRow (getD ss i (freeSlot 0))) j 0
+    getD-slot : (j : ℕ) → i < 64 → j < 41 → getD (words n m ts ss row) (slotPlace i + j) 0 ≡ getD (slotRow (getD ss i (freeSlot 0))) j 0
     unfolding before
     getD-slot j h l =
         ap (λ (x : List ℕ). getD x (slotPlace i + j) 0) (nested (map taskRow ts) (map slotRow ss))
@@ -125,7 +125,7 @@ module _ (t : Tables) where
   pub slots-long : length (slotPlaces t) ≡ 64
   slots-long = length-fit 64 (freeSlot 0) (t .slots)
 
-  pub length-layout : length (layout t) ≡ 2723
+  pub length-layout : length (layout t) ≡ 2787
   unfolding layout
   length-layout =
       length-words (taskPlaces t) (slotPlaces t) tasks-long slots-long (length (t .tasks)) (length (t .slots)) (sequenceRow (t .ready))
@@ -154,7 +154,7 @@ module _ (t : Tables) where
         ∙ ap (λ (v : Task). getD (taskRow v) j 0) (getD-fit 32 noTask (t .tasks) i l)
 
     -- word j of slot i
-    pub slot-word : i < 64 → j < 40 → getD (layout t) (slotPlace i + j) 0 ≡ getD (slotRow (getD (t .slots) i (freeSlot 0))) j 0
+    pub slot-word : i < 64 → j < 41 → getD (layout t) (slotPlace i + j) 0 ≡ getD (slotRow (getD (t .slots) i (freeSlot 0))) j 0
     unfolding layout
     slot-word l b =
         getD-slot (taskPlaces t) (slotPlaces t) tasks-long slots-long (length (t .tasks)) (length (t .slots)) (sequenceRow (t .ready)) i j l b
@@ -162,30 +162,30 @@ module _ (t : Tables) where
 
 -- each word is a count, or one of a task, or one of a slot, or one of the sequence
 pub by-place : (P : ℕ → Type 0) → P 0 → P 1
-    → ((i j : ℕ) → i < 32 → j < 4 → P (taskPlace i + j)) → ((i j : ℕ) → i < 64 → j < 40 → P (slotPlace i + j))
-    → P readyPlace → ((k : ℕ) → k < 32 → P (sequencePlace k)) → (k : ℕ) → k < 2723 → P k
+    → ((i j : ℕ) → i < 32 → j < 4 → P (taskPlace i + j)) → ((i j : ℕ) → i < 64 → j < 41 → P (slotPlace i + j))
+    → P readyPlace → ((k : ℕ) → k < 32 → P (sequencePlace k)) → (k : ℕ) → k < 2787 → P k
 by-place P n m task slot ready sequence zero h = n
 by-place P n m task slot ready sequence (suc zero) h = m
 by-place P n m task slot ready sequence (suc (suc k)) h =
     elim (decLt k 128) [
       | yes l ↦ in-tasks l
-      | no d ↦ elim (decLt k 2688) [
+      | no d ↦ elim (decLt k 2752) [
         | yes l ↦ in-slots (omega arith) l
-        | no o ↦ elim (decLt k 2689) [ yes l ↦ at-ready (omega arith) | no u ↦ in-sequence (omega arith) ]
+        | no o ↦ elim (decLt k 2753) [ yes l ↦ at-ready (omega arith) | no u ↦ in-sequence (omega arith) ]
       ]
     ]
   where
     in-tasks : k < 128 → P (suc (suc k))
     in-tasks l = let e : taskPlace (k / 4) + k % 4 ≡ suc (suc k) = omega arith in rw e at (task (k / 4) (k % 4) (omega arith) (omega arith))
 
-    in-slots : 128 ≤ k → k < 2688 → P (suc (suc k))
+    in-slots : 128 ≤ k → k < 2752 → P (suc (suc k))
     in-slots l b =
-        let i : ℕ = (k - 128) / 40 in
-        let j : ℕ = (k - 128) % 40 in
+        let i : ℕ = (k - 128) / 41 in
+        let j : ℕ = (k - 128) % 41 in
         let e : slotPlace i + j ≡ suc (suc k) = omega arith in rw e at (slot i j (omega arith) (omega arith))
 
-    at-ready : k ≡ 2688 → P (suc (suc k))
+    at-ready : k ≡ 2752 → P (suc (suc k))
     at-ready l = let e : readyPlace ≡ suc (suc k) = omega arith in subst P e ready
 
-    in-sequence : 2689 ≤ k → P (suc (suc k))
-    in-sequence l = let e : sequencePlace (k - 2689) ≡ suc (suc k) = omega arith in rw e at (sequence (k - 2689) (omega arith))
+    in-sequence : 2753 ≤ k → P (suc (suc k))
+    in-sequence l = let e : sequencePlace (k - 2753) ≡ suc (suc k) = omega arith in rw e at (sequence (k - 2753) (omega arith))

@@ -19,19 +19,19 @@ use Rattle.tables.specs.declared.Head.{Head}
 use Rattle.tables.specs.Codec.{recordRow}
 use Rattle.tables.specs.Layout.{tablesLength, taskPlace, slotPlace, readyPlace, sequencePlace, headOf, recordAt, isQueueLaid, isSequenceLaid, isLaid}
 
--- ---- a slot, stored as its eight words and then its queue
+-- ---- a slot, stored as its nine words and then its queue
 
 -- the words of a slot before its queue
 abbrev pub headRow : Head → List ℕ
-headRow s = s .generation ∷ s .live ∷ s .name ∷ s .attributes ∷ s .count ∷ s .owner ∷ s .nest ∷ s .waiters ∷ []
+headRow s = s .generation ∷ s .live ∷ s .name ∷ s .attributes ∷ s .count ∷ s .owner ∷ s .nest ∷ s .maximum ∷ s .waiters ∷ []
 
 pub slot-stored : (m m₁ m₂ : List ℕ) (at : ℕ) (s : Semaphore) → m₁ ≡ sets m (4 * at) (bytesOf (headRow (headOf s)))
-    → m₂ ≡ sets m₁ (4 * (at + 8)) (bytesOf (s .queue)) → m₂ ≡ sets m (4 * at) (bytesOf (recordRow s))
+    → m₂ ≡ sets m₁ (4 * (at + 9)) (bytesOf (s .queue)) → m₂ ≡ sets m (4 * at) (bytesOf (recordRow s))
 unfolding bytesOf
 slot-stored m m₁ m₂ at s e₁ e₂ =
-    let p : 4 * (at + 8) ≡ 4 * at + 32 = omega arith in
+    let p : 4 * (at + 9) ≡ 4 * at + 36 = omega arith in
     e₂
-    ∙ ap (λ (l : List ℕ). sets l (4 * (at + 8)) (bytesOf (s .queue))) e₁
+    ∙ ap (λ (l : List ℕ). sets l (4 * (at + 9)) (bytesOf (s .queue))) e₁
     ∙ ap (λ (n : ℕ). sets (sets m (4 * at) (bytesOf (headRow (headOf s)))) n (bytesOf (s .queue))) p
     ∙ sets-join m (4 * at) (bytesOf (headRow (headOf s))) (bytesOf (s .queue))
 
@@ -47,6 +47,7 @@ recordWith s queue =
       count = s .count;
       owner = s .owner;
       nest = s .nest;
+      maximum = s .maximum;
       waiters = s .waiters;
       queue = queue;
     }
@@ -55,10 +56,10 @@ pub task-loaded : (v : Task) (a b c d : ℕ) → a ≡ v .priority → b ≡ v .
     → _≡_ {A = Task} (record { priority = a; answer = b; awaited = c; ticks = d }) v
 task-loaded v a b c d ea eb ec ed = λ k. record { priority = ea k; answer = eb k; awaited = ec k; ticks = ed k }
 
-pub head-loaded : (s : Semaphore) (a b c d e f g h : ℕ) → a ≡ s .generation → b ≡ s .live → c ≡ s .name → d ≡ s .attributes
-    → e ≡ s .count → f ≡ s .owner → g ≡ s .nest → h ≡ s .waiters
-    → _≡_ {A = Head} (record { generation = a; live = b; name = c; attributes = d; count = e; owner = f; nest = g; waiters = h }) (headOf s)
-head-loaded s a b c d e f g h ea eb ec ed ee ef eg eh = cc
+pub head-loaded : (s : Semaphore) (a b c d e f g h i : ℕ) → a ≡ s .generation → b ≡ s .live → c ≡ s .name → d ≡ s .attributes
+    → e ≡ s .count → f ≡ s .owner → g ≡ s .nest → h ≡ s .maximum → i ≡ s .waiters
+    → _≡_ {A = Head} (record { generation = a; live = b; name = c; attributes = d; count = e; owner = f; nest = g; maximum = h; waiters = i }) (headOf s)
+head-loaded s a b c d e f g h i ea eb ec ed ee ef eg eh ei = cc
 
 -- what stands before a queue, with the queue
 pub slot-loaded : (s : Semaphore) (head : Head) (queue : List ℕ) → head ≡ headOf s → queue ≡ s .queue → recordWith head queue ≡ s
@@ -74,26 +75,26 @@ and-stop b e = sym (if-no b false e)
 
 -- a slot's queue, by its number of waiters
 module _ (bs : List ℕ) (i w : ℕ) (e : w ≡ recordAt bs i .waiters) where
-  queue-tested : (leb w 32 and blank bs (slotPlace i + 8 + w) (slotPlace i + 40)) ≡ isQueueLaid bs i
+  queue-tested : (leb w 32 and blank bs (slotPlace i + 9 + w) (slotPlace i + 41)) ≡ isQueueLaid bs i
   unfolding isQueueLaid
-  queue-tested = ap (λ (w : ℕ). leb w 32 and blank bs (slotPlace i + 8 + w) (slotPlace i + 40)) e
+  queue-tested = ap (λ (w : ℕ). leb w 32 and blank bs (slotPlace i + 9 + w) (slotPlace i + 41)) e
 
   pub queue-long : 32 < w → false ≡ isQueueLaid bs i
   queue-long h = and-stop _ (lt-leb w 32 h) ∙ queue-tested
 
-  pub queue-within : (r : Bool) → w ≤ 32 → r ≡ blank bs (slotPlace i + 8 + w) (slotPlace i + 40) → r ≡ isQueueLaid bs i
+  pub queue-within : (r : Bool) → w ≤ 32 → r ≡ blank bs (slotPlace i + 9 + w) (slotPlace i + 41) → r ≡ isQueueLaid bs i
   queue-within r h f = and-then (le-leb w 32 h) f ∙ queue-tested
 
 -- the sequence of ready tasks, by its length
 module _ (bs : List ℕ) (w : ℕ) (e : w ≡ wordAt bs readyPlace) where
-  sequence-tested : (leb w 32 and blank bs (sequencePlace w) 2723) ≡ isSequenceLaid bs
+  sequence-tested : (leb w 32 and blank bs (sequencePlace w) 2787) ≡ isSequenceLaid bs
   unfolding isSequenceLaid
-  sequence-tested = ap (λ (w : ℕ). leb w 32 and blank bs (sequencePlace w) 2723) e
+  sequence-tested = ap (λ (w : ℕ). leb w 32 and blank bs (sequencePlace w) 2787) e
 
   pub sequence-long : 32 < w → false ≡ isSequenceLaid bs
   sequence-long h = and-stop _ (lt-leb w 32 h) ∙ sequence-tested
 
-  pub sequence-within : (r : Bool) → w ≤ 32 → r ≡ blank bs (sequencePlace w) 2723 → r ≡ isSequenceLaid bs
+  pub sequence-within : (r : Bool) → w ≤ 32 → r ≡ blank bs (sequencePlace w) 2787 → r ≡ isSequenceLaid bs
   sequence-within r h f = and-then (le-leb w 32 h) f ∙ sequence-tested
 
 -- the tables, by their length

@@ -15,7 +15,7 @@ taskFrom ws = record { priority = getD ws 0 0; answer = getD ws 1 0; awaited = g
 
 -- a slot's numbers, how many wait, and all 32 places of its queue
 abbrev pub recordRow : Semaphore → List ℕ
-recordRow s = s .generation ∷ s .live ∷ s .name ∷ s .attributes ∷ s .count ∷ s .owner ∷ s .nest ∷ s .waiters ∷ s .queue
+recordRow s = s .generation ∷ s .live ∷ s .name ∷ s .attributes ∷ s .count ∷ s .owner ∷ s .nest ∷ s .maximum ∷ s .waiters ∷ s .queue
 
 abbrev pub recordFrom : List ℕ → Semaphore
 recordFrom ws =
@@ -27,8 +27,9 @@ recordFrom ws =
       count = getD ws 4 0;
       owner = getD ws 5 0;
       nest = getD ws 6 0;
-      waiters = getD ws 7 0;
-      queue = drop 8 ws;
+      maximum = getD ws 7 0;
+      waiters = getD ws 8 0;
+      queue = drop 9 ws;
     }
 
 abbrev pub slotRow : Slot → List ℕ

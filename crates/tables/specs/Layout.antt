@@ -1,5 +1,5 @@
 -- The tables as words, and back. docs/LAYOUT.md has the same numbers: word 0 is N and word 1 is S; task i (from 0) has the 4 words from 2 + 4 i on,
--- slot i the 40 words from 130 + 40 i on, the last 32 of them its queue; word 2690 is the length of the sequence of ready tasks, and its 32 places follow.
+-- slot i the 41 words from 130 + 41 i on, the last 32 of them its queue; word 2754 is the length of the sequence of ready tasks, and its 32 places follow.
 use mathlib.Core.Path.{_≡_}
 use mathlib.Core.Bool.{Bool}
 use mathlib.Core.List.{List, [], _∷_, _++_, map}
@@ -18,22 +18,22 @@ use Rattle.semaphore.specs.Record.{slotFrom}
 use Rattle.tables.specs.declared.Head.{Head}
 use Rattle.tables.specs.Codec.{taskRow, taskFrom, recordFrom, slotRow}
 
--- 2723 words of four bytes
+-- 2787 words of four bytes
 abbrev pub tablesLength : ℕ
-tablesLength = 10892
+tablesLength = 11148
 
 abbrev pub taskPlace : ℕ → ℕ
 taskPlace i = 2 + 4 * i
 
 abbrev pub slotPlace : ℕ → ℕ
-slotPlace i = 130 + 40 * i
+slotPlace i = 130 + 41 * i
 
 -- the length of the sequence of ready tasks, and its places
 abbrev pub readyPlace : ℕ
-readyPlace = 2690
+readyPlace = 2754
 
 abbrev pub sequencePlace : ℕ → ℕ
-sequencePlace k = 2691 + k
+sequencePlace k = 2755 + k
 
 -- ---- from tables to bytes: places for all tasks, slots and ready tasks, those beyond N, S and the sequence's length all 0
 
@@ -57,7 +57,7 @@ taskAt bs i = taskFrom (rowAt bs (taskPlace i) 4)
 
 -- a slot's record, with all 32 places of its queue
 unfoldable pub recordAt : List ℕ → ℕ → Semaphore
-recordAt bs i = recordFrom (rowAt bs (slotPlace i) 40)
+recordAt bs i = recordFrom (rowAt bs (slotPlace i) 41)
 
 -- all 32 places of the sequence of ready tasks
 unfoldable pub sequenceAt : List ℕ → List ℕ
@@ -74,6 +74,7 @@ headOf s =
       count = s .count;
       owner = s .owner;
       nest = s .nest;
+      maximum = s .maximum;
       waiters = s .waiters;
     }
 
@@ -88,6 +89,7 @@ slotWith s queue =
       count = s .count;
       owner = s .owner;
       nest = s .nest;
+      maximum = s .maximum;
       queue = queue;
     }
 
@@ -108,11 +110,11 @@ modelOf bs =
 -- a slot's queue is within its 32 places, and 0 behind its waiters
 unfoldable pub isQueueLaid : List ℕ → ℕ → Bool
 isQueueLaid bs i =
-    leb (recordAt bs i .waiters) maxTasks and blank bs (slotPlace i + 8 + recordAt bs i .waiters) (slotPlace i + 40)
+    leb (recordAt bs i .waiters) maxTasks and blank bs (slotPlace i + 9 + recordAt bs i .waiters) (slotPlace i + 41)
 
 -- the sequence of ready tasks is within its 32 places, and 0 behind its length
 unfoldable pub isSequenceLaid : List ℕ → Bool
-isSequenceLaid bs = leb (wordAt bs readyPlace) maxTasks and blank bs (sequencePlace (wordAt bs readyPlace)) 2723
+isSequenceLaid bs = leb (wordAt bs readyPlace) maxTasks and blank bs (sequencePlace (wordAt bs readyPlace)) 2787
 
 unfoldable pub isLaid : List ℕ → Bool
 isLaid bs =

@@ -14,7 +14,7 @@ ghost use Rattle.tables.specs.Layout.{tablesLength, taskPlace, slotPlace
 ghost use Rattle.tables.specs.Layout.{isQueueLaid, isSequenceLaid, isLaid};
 ghost use Rattle.laws.specs.All.{all};
 
-pub const TABLES_LENGTH: usize = 10892;
+pub const TABLES_LENGTH: usize = 11148;
 
 // Words: N, S, then the places of tasks, those of slots, the length of the sequence of ready tasks and its places.
 pub const TASK_PLACES: usize = 32;
@@ -27,13 +27,13 @@ const TASK_WORDS: usize = 4;
 
 const SLOTS_AT: usize = 130;
 
-const SLOT_WORDS: usize = 40;
+const SLOT_WORDS: usize = 41;
 
-const READY_AT: usize = 2690;
+const READY_AT: usize = 2754;
 
-const SEQUENCE_AT: usize = 2691;
+const SEQUENCE_AT: usize = 2755;
 
-const TABLES_WORDS: usize = 2723;
+const TABLES_WORDS: usize = 2787;
 
 // Words of a slot: its numbers, the count of its waiters, and the places of its queue.
 const GENERATION: usize = 0;
@@ -50,11 +50,11 @@ const OWNER: usize = 5;
 
 const NEST: usize = 6;
 
-const WAITERS: usize = 7;
+const MAXIMUM: usize = 7;
 
-const QUEUE: usize = 8;
+const WAITERS: usize = 8;
 
-const QUEUE_PLACES: usize = 32;
+const QUEUE: usize = 9;
 
 // The words of a slot before its queue, for those who read the queue where it lies.
 pub struct Head {
@@ -65,6 +65,7 @@ pub struct Head {
     pub count: u32,
     pub owner: u32,
     pub nest: u32,
+    pub maximum: u32,
     pub waiters: u32,
 }
 
@@ -101,7 +102,7 @@ fn task_word(m: &[u8], i: usize, k: usize) -> u32
 }
 
 fn slot_word(m: &[u8], i: usize, k: usize) -> u32
-    requires { ⌜ (4 * (slotPlace i + k) + 4 ≤ length (now m)) × (i < 64) × (k < 40) ⌝ }
+    requires { ⌜ (4 * (slotPlace i + k) + 4 ≤ length (now m)) × (i < 64) × (k < 41) ⌝ }
     ensures { λ r. ⌜ r ≡ getD (recordRow (recordAt (now (m .entry)) i)) k 0 ⌝ }
 {
     words::word(m, SLOTS_AT + SLOT_WORDS * i + k)
@@ -176,6 +177,7 @@ pub fn load_head(m: &[u8], i: usize) -> Head
         count: slot_word(m, i, COUNT),
         owner: slot_word(m, i, OWNER),
         nest: slot_word(m, i, NEST),
+        maximum: slot_word(m, i, MAXIMUM),
         waiters: slot_word(m, i, WAITERS),
     }
 }
@@ -186,7 +188,7 @@ fn load_queue(m: &[u8], i: usize) -> [u32; 32]
 {
     let mut queue = [0u32; 32];
     let mut k = 0;
-    while k < QUEUE_PLACES {
+    while k < TASK_PLACES {
         queue[k] = queue_entry(m, i, k);
         k += 1;
     }
@@ -207,6 +209,7 @@ pub fn load_slot(m: &[u8], i: usize) -> Semaphore
         count: s.count,
         owner: s.owner,
         nest: s.nest,
+        maximum: s.maximum,
         waiters: s.waiters,
         queue: queue,
     }
@@ -225,6 +228,7 @@ pub fn store_slot(m: &mut [u8], i: usize, s: Semaphore)
         s.count,
         s.owner,
         s.nest,
+        s.maximum,
         s.waiters,
     ];
     words::set_words(m, at, &row);
@@ -246,6 +250,7 @@ pub fn store_head(m: &mut [u8], i: usize, s: Head)
         s.count,
         s.owner,
         s.nest,
+        s.maximum,
         s.waiters,
     ];
     words::set_words(m, SLOTS_AT + SLOT_WORDS * i, &row);
@@ -333,7 +338,7 @@ fn is_queue_laid(m: &[u8], i: usize) -> bool
     if waiters == 0 {
         return words::is_blank(m, at + QUEUE, at + SLOT_WORDS);
     }
-    if QUEUE_PLACES < waiters {
+    if TASK_PLACES < waiters {
         return false;
     }
     words::is_blank(m, at + QUEUE + waiters, at + SLOT_WORDS)

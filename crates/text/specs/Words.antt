@@ -85,7 +85,7 @@ opensScripts w = eqb w 11 or eqb w 17 or eqb w 18 or eqb w 20
 
 -- how many numbers a word takes; a start takes one and then any count of priorities
 unfoldable pub takes : ℕ → ℕ
-takes w = getD (0 ∷ 1 ∷ 1 ∷ 4 ∷ 1 ∷ 2 ∷ 4 ∷ 2 ∷ 2 ∷ 0 ∷ 0 ∷ 1 ∷ 3 ∷ 2 ∷ 2 ∷ 2 ∷ 2 ∷ 2 ∷ 3 ∷ 0 ∷ 0 ∷ []) w 0
+takes w = getD (0 ∷ 1 ∷ 1 ∷ 5 ∷ 1 ∷ 2 ∷ 4 ∷ 2 ∷ 2 ∷ 0 ∷ 0 ∷ 1 ∷ 3 ∷ 2 ∷ 2 ∷ 2 ∷ 2 ∷ 2 ∷ 3 ∷ 0 ∷ 0 ∷ []) w 0
 
 unfoldable pub countFits : ℕ → ℕ → Bool
 countFits w n = choose (eqb w 2) (leb 1 n) (eqb n (takes w))

@@ -21,8 +21,8 @@ use Rattle.agreement.specs.Bytes.{agreesBytes}
 use Rattle.calls.specs.Agreeing.{Agreeing}
 use Rattle.manager.specs.Entry.{noNext, replyTo}
 use Rattle.manager.specs.Runs.{replies}
-use Rattle.state.specs.File.{isStarted, stateFile, longestFile}
-use Rattle.state.specs.Reading.{tablesIn, isState}
+use Rattle.state.specs.File.{isStarted, firstEdition, secondEdition, editionFile, stateFile, longestFile}
+use Rattle.state.specs.Reading.{tablesIn, editionIn, isState, HasFirstMaxima, Gives}
 use Rattle.state.specs.Reply.{saveReply, loadReply}
 use Rattle.state.proofs.Promises as files
 use Rattle.state.proofs.Lengths as lengths
@@ -39,26 +39,44 @@ pub saved-bytes-load-back : (bs buffer : List ℕ) → Bytes bs → let r = save
     ≡ record { answer = record { status = 0; value = 0; next = next (modelOf bs) }; bytes = bs }
 saved-bytes-load-back = loads.saved-then-loaded
 
--- what is loaded is written as the same file, before what the buffer has behind it
-pub loaded-bytes-save-back : (bs file buffer : List ℕ) → Bytes bs → loadReply bs file .answer .status ≡ 0 → length file ≤ length buffer
+-- what is loaded is written as the edition 2 file of its tables, before what the buffer has behind it
+pub loaded-bytes-save-back : (bs file buffer : List ℕ) → Bytes bs → loadReply bs file .answer .status ≡ 0
+    → let out = stateFile (tablesIn file) in length out ≤ length buffer
     → saveReply (loadReply bs file .bytes) buffer
-    ≡ record { answer = record { status = 0; value = length file; next = next (tablesIn file) }; bytes = file ++ drop (length file) buffer }
+    ≡ record { answer = record { status = 0; value = length out; next = next (tablesIn file) }; bytes = out ++ drop (length out) buffer }
 loaded-bytes-save-back = loads.loaded-then-saved
 
--- a file that is read is byte for byte what would be written from its tables
-pub read-file-is-written : (file : List ℕ) → isState file ≡ true → file ≡ stateFile (tablesIn file)
+-- an edition 2 file that is read is byte for byte what would be written from its tables
+pub read-file-is-written : (file : List ℕ) → isState file ≡ true → editionIn file ≡ secondEdition → file ≡ stateFile (tablesIn file)
 read-file-is-written = files.state-is-written
 
--- a file is valid exactly where agreeing started tables give it; any other gets 8, value 0 and next task 0, and nothing else does
-pub valid-exactly : (file : List ℕ) → (isState file ≡ true) ↔ ((t : Tables) × Agrees t × (isStarted t ≡ true) × (file ≡ stateFile t))
+-- a file is valid exactly where agreeing started tables give it, in edition 2, or in edition 1 with the maxima of their classes; any other gets 8, value 0
+-- and next task 0, and nothing else does
+pub valid-exactly : (file : List ℕ) → (isState file ≡ true) ↔ ((t : Tables) × Agrees t × (isStarted t ≡ true) × Gives t file)
 valid-exactly = files.states-exactly
 
 pub eight-exactly-otherwise : (file : List ℕ)
-    → (loadReply (laid unstarted) file .answer .status ≡ 8) ↔ ((t : Tables) → Agrees t → isStarted t ≡ true → file ≡ stateFile t → ⊥)
+    → (loadReply (laid unstarted) file .answer .status ≡ 8) ↔ ((t : Tables) → Agrees t → isStarted t ≡ true → Gives t file → ⊥)
 eight-exactly-otherwise = loads.eight-exactly
 
+-- request 4: an edition 1 file is valid exactly where it is byte for byte what edition 1 has of its tables, whose live slots have 4294967295 or 1 by class, and
+-- the edition 2 file so made is valid (and tells the same tables)
+pub first-edition-exactly : (file : List ℕ) → editionIn file ≡ firstEdition → let made = stateFile (tablesIn file) in
+    (isState file ≡ true) ↔ ((file ≡ editionFile firstEdition (tablesIn file)) × (isState made ≡ true) × (tablesIn made ≡ tablesIn file))
+first-edition-exactly = files.first-exactly
+
+pub first-edition-maxima : (file : List ℕ) → editionIn file ≡ firstEdition → HasFirstMaxima (tablesIn file)
+first-edition-maxima = files.read-first-maxima
+
+pub made-file-is-valid : (file : List ℕ) → isState file ≡ true → isState (stateFile (tablesIn file)) ≡ true
+made-file-is-valid = files.made-is-state
+
+-- tables with those maxima are read back from their edition 1 file too
+pub first-edition-reads-back : (t : Tables) → Agrees t → HasFirstMaxima t → tablesIn (editionFile firstEdition t) ≡ t
+first-edition-reads-back = files.first-reads-back
+
 -- the length of a file of agreeing tables, and the longest
-pub length-of-file : (t : Tables) → Agrees t → length (stateFile t) ≡ 56 + 20 * length (t .tasks) + 32 * length (t .slots)
+pub length-of-file : (t : Tables) → Agrees t → length (stateFile t) ≡ 56 + 20 * length (t .tasks) + 36 * length (t .slots)
 length-of-file = lengths.file-length
 
 pub no-file-longer : (t : Tables) → Agrees t → length (stateFile t) ≤ longestFile
@@ -116,7 +134,8 @@ pub deleted-after-the-load-never-again : (bs file : List ℕ) → Bytes bs → l
 deleted-after-the-load-never-again = loads.deleted-from-load
 
 -- an identifier that the saved machine gave out after the save is void: it names nothing in the loaded tables
-pub void-after-the-load : (t : Tables) → Agrees t → (requests : List Request) (caller name count attributes : ℕ) (priorities : List ℕ)
-    → let a = step (after t requests) (Create caller name count attributes) priorities .answer in
-    a .status ≡ 0 → names (tablesIn (stateFile t)) (a .value) ≡ false
+pub void-after-the-load : (t : Tables) → Agrees t → (file : List ℕ) → Gives t file
+    → (requests : List Request) (caller name count attributes maximum : ℕ) (priorities : List ℕ)
+    → let a = step (after t requests) (Create caller name count attributes maximum) priorities .answer in
+    a .status ≡ 0 → names (tablesIn file) (a .value) ≡ false
 void-after-the-load = loads.void-after-load

@@ -14,10 +14,10 @@ use Rattle.laws.specs.Rows.{tabulate}
 use Rattle.words.proofs.WordsInBytes.{Bytes, Words}
 use Rattle.rules.specs.declared.Call.{Call}
 use Rattle.rules.specs.declared.Call.the-variants.{Create, Ident, Delete, Release}
-use Rattle.rules.specs.Numbers.{maxGeneration}
+use Rattle.rules.specs.Numbers.{maxGeneration, isBinary}
 use Rattle.rules.specs.Machine.{Tables, unstarted, withTasks, withReady, slotOf, isLive, idOf, names, next}
 use Rattle.rules.specs.Agreement.{Agrees}
-use Rattle.rules.specs.Calls.{searchedSlots, step}
+use Rattle.rules.specs.Calls.{anyCaller, searchedSlots, step}
 use Rattle.rules.specs.Runs.{Request, after, answers}
 use Rattle.rules.specs.Promises.{Refusal, IsRefusal, listed, isIn, SomeGives, NextIs, sequenceAfter, NeverAgain}
 use Rattle.rules.specs.Fits.{callFits, callsFit}
@@ -28,6 +28,7 @@ use Rattle.rules.proofs.Sequence.{ready-order}
 use Rattle.rules.proofs.Invariants.Agreeing.{unstarted-agrees}
 use Rattle.rules.proofs.Invariants.Kept.{kept}
 use Rattle.rules.proofs.History.Identifiers.{created-once}
+use Rattle.rules.proofs.History.Maximum as maxima
 use Rattle.rules.proofs.Asking.{ask, says, requests, expected, answersOf, tablesOf, lastOf}
 use Rattle.rules.proofs.Vectors as vectors
 use Rattle.tables.specs.Layout.{tablesLength, slotPlace, laid, modelOf}
@@ -144,9 +145,9 @@ sequence-in-the-bytes = entries.sequence-after-bytes
 
 -- P1 to P15 as calls, the tables that P15 leaves, and all as a session's text
 pub cases-as-calls : answersOf (requests vectors.worked)
-    ++ lastOf (vectors.one 4294967295 0) (ask (Release 1 65537))
-    ∷ lastOf (vectors.one 1 32) (ask (Release 0 65537))
-    ∷ lastOf (vectors.one 1 16) (ask (Release 0 65537))
+    ++ lastOf (vectors.one 4294967295 0 4294967295) (ask (Release 1 65537))
+    ∷ lastOf (vectors.one 1 32 1) (ask (Release 0 65537))
+    ∷ lastOf (vectors.one 1 16 1) (ask (Release 0 65537))
     ∷ answersOf (requests vectors.equals)
     ≡ expected vectors.worked ++ says 13 0 1 ∷ says 13 0 1 ∷ says 23 0 1 ∷ expected vectors.equals
 cases-as-calls = vectors.P1-P15
@@ -160,10 +161,30 @@ others-as-text = worked.P12-P15-as-text
 
 pub equals-leave : tablesOf (requests vectors.equals) ≡ record {
   tasks = record { priority = 10; answer = 0; awaited = 0; ticks = 0 } ∷ record { priority = 10; answer = 0; awaited = 0; ticks = 0 } ∷ [];
-  slots = record { generation = 1; live = 1; name = 77; attributes = 0; count = 0; owner = 0; nest = 0; queue = [] } ∷ [];
+  slots = record { generation = 1; live = 1; name = 77; attributes = 0; count = 0; owner = 0; nest = 0; maximum = 4294967295; queue = [] } ∷ [];
   ready = 2 ∷ 1 ∷ [];
 }
 equals-leave = vectors.P15-leaves
+
+-- request 4: over any run of calls, while its identifier names it, a semaphore keeps its maximum, which is the one that create was given, and its count is at
+-- most that; on agreeing tables a release is 13 exactly for a counting or simple binary semaphore at its maximum, by whoever may call
+pub maximum-stays : (t : Tables) (id : ℕ) (requests : List Request) → names t id ≡ true
+    → let u = after t requests in names u id ≡ true → slotOf u (id % 65536) .maximum ≡ slotOf t (id % 65536) .maximum
+maximum-stays = maxima.maximum-stays
+
+pub maximum-as-created : (t : Tables) (caller name count attributes maximum : ℕ) (priorities : List ℕ) (requests : List Request)
+    → let o = step t (Create caller name count attributes maximum) priorities in o .answer .status ≡ 0
+    → let u = after (o .tables) requests in names u (o .answer .value) ≡ true → slotOf u (o .answer .value % 65536) .maximum ≡ maximum
+maximum-as-created = maxima.created-maximum
+
+pub count-within-maximum : (t : Tables) → Agrees t → (requests : List Request) → callsFit requests ≡ true → (id : ℕ)
+    → let u = after t requests in names u id ≡ true → slotOf u (id % 65536) .count ≤ slotOf u (id % 65536) .maximum
+count-within-maximum = maxima.count-stays
+
+pub unsatisfied-release-exactly : (t : Tables) → Agrees t → (caller id : ℕ) (priorities : List ℕ) → let s = slotOf t (id % 65536) in
+    (step t (Release caller id) priorities .answer .status ≡ 13)
+    ↔ ((anyCaller t caller 0 ≡ 0) × (names t id ≡ true) × (isBinary (s .attributes) ≡ false) × (s .count ≡ s .maximum))
+unsatisfied-release-exactly = maxima.release-at-maximum
 
 -- agreement is kept by every call and tick, and by every run of entry points over the bytes
 pub agreement-kept : (t : Tables) (call : Call) (priorities : List ℕ) → callFits call ≡ true → Agrees t → Agrees (step t call priorities .tables)
@@ -187,10 +208,10 @@ pub last-generation-never-again : (bs : List ℕ) → Bytes bs → (caller id : 
 last-generation-never-again = entries.retired-never-again-bytes
 
 -- no two creates of a run give the same identifier
-pub created-once-only : (t : Tables) (caller name count attributes : ℕ) (priorities : List ℕ) (requests : List Request)
-    (caller′ name′ count′ attributes′ : ℕ) (priorities′ : List ℕ)
-    → let o = step t (Create caller name count attributes) priorities in o .answer .status ≡ 0
-    → let a = step (after (o .tables) requests) (Create caller′ name′ count′ attributes′) priorities′ .answer in
+pub created-once-only : (t : Tables) (caller name count attributes maximum : ℕ) (priorities : List ℕ) (requests : List Request)
+    (caller′ name′ count′ attributes′ maximum′ : ℕ) (priorities′ : List ℕ)
+    → let o = step t (Create caller name count attributes maximum) priorities in o .answer .status ≡ 0
+    → let a = step (after (o .tables) requests) (Create caller′ name′ count′ attributes′ maximum′) priorities′ .answer in
     a .status ≡ 0 → a .value ≡ o .answer .value → ⊥
 created-once-only = created-once
 

@@ -21,7 +21,12 @@ returns-5 : tie.Need-returns-5
 returns-5 c queue e = search cases ∙ clear-with (c .before .before .before .before .before .before .before .before .before .before .args .s) queue e
 
 returns-6 : tie.Need-returns-6
-returns-6 c queue e = search cases ∙ clear-with (c .before .before .before .before .before .before .before .before .before .before .before .args .s) queue e
+returns-6 c queue e =
+    search cases ∙ clear-with (c .before .before .before .before .before .before .before .before .before .before .before .before .args .s) queue e
+
+returns-7 : tie.Need-returns-7
+returns-7 c queue e =
+    search cases ∙ clear-with (c .before .before .before .before .before .before .before .before .before .before .before .before .before .args .s) queue e
 
 pub is-clear-spec : {M : Type 1} → statement M
-is-clear-spec = tie.close (tie.spec returns returns-2 returns-3 returns-4 returns-5 returns-6)
+is-clear-spec = tie.close (tie.spec returns returns-2 returns-3 returns-4 returns-5 returns-6 returns-7)

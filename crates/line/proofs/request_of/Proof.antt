@@ -11,8 +11,8 @@ use Rattle.line.proofs.request_of.Statement.{statement}
 use Rattle.line.proofs.request_of.Tie as tie
 
 -- what is asked by the word that the match found
-by-word : {word found : Word} {r : Line} (count a b c d : ℕ) → word ≡ found → r ≡ askedBy found count a b c d → r ≡ askedBy word count a b c d
-by-word count a b c d e f = f ∙ ap (λ (w : Word). askedBy w count a b c d) (sym e)
+by-word : {word found : Word} {r : Line} (count a b c d e : ℕ) → word ≡ found → r ≡ askedBy found count a b c d e → r ≡ askedBy word count a b c d e
+by-word count a b c d e is f = f ∙ ap (λ (w : Word). askedBy w count a b c d e) (sym is)
 
 enum-told : tie.Need-enum-told
 enum-told c = search needs
@@ -70,38 +70,38 @@ enum-told-9 c = search needs
 
 returns : tie.Need-returns
 unfolding askedBy
-returns c = by-word _ _ _ _ _ (c .before .enum-told .given .1) (c .starting .ensures)
+returns c = by-word _ _ _ _ _ _ (c .before .enum-told .given .1) (c .starting .ensures)
 
 returns-2 : tie.Need-returns-2
 unfolding askedBy
-returns-2 c = by-word _ _ _ _ _ (c .before .enum-told2 .given .1) (c .taking .ensures)
+returns-2 c = by-word _ _ _ _ _ _ (c .before .enum-told2 .given .1) (c .taking .ensures)
 
 returns-3 : tie.Need-returns-3
 unfolding askedBy
-returns-3 c = by-word _ _ _ _ _ (c .before .enum-told3 .given .1) (c .taking2 .ensures)
+returns-3 c = by-word _ _ _ _ _ _ (c .before .enum-told3 .given .1) (c .taking2 .ensures)
 
 returns-4 : tie.Need-returns-4
 unfolding askedBy
-returns-4 c = by-word _ _ _ _ _ (c .before .enum-told4 .given .1) (c .taking3 .ensures)
+returns-4 c = by-word _ _ _ _ _ _ (c .before .enum-told4 .given .1) (c .taking3 .ensures)
 
 returns-5 : tie.Need-returns-5
 unfolding askedBy
 returns-5 c =
-    by-word _ _ _ _ _ (c .before .before .enum-told5 .given .1)
+    by-word _ _ _ _ _ _ (c .before .before .enum-told5 .given .1)
     (c .taking4 .ensures ∙ ap (λ (w : Wait). withCount 4 (c .before .before .before .before .args .count)
     (Obtain (c .before .before .before .before .args .a) (c .before .before .before .before .args .b) w)) (c .before .wait-of .ensures))
 
 returns-6 : tie.Need-returns-6
 unfolding askedBy
-returns-6 c = by-word _ _ _ _ _ (c .before .enum-told6 .given .1) (c .taking5 .ensures)
+returns-6 c = by-word _ _ _ _ _ _ (c .before .enum-told6 .given .1) (c .taking5 .ensures)
 
 returns-7 : tie.Need-returns-7
 unfolding askedBy
-returns-7 c = by-word _ _ _ _ _ (c .before .enum-told7 .given .1) (c .taking6 .ensures)
+returns-7 c = by-word _ _ _ _ _ _ (c .before .enum-told7 .given .1) (c .taking6 .ensures)
 
 returns-8 : tie.Need-returns-8
 unfolding askedBy
-returns-8 c = by-word _ _ _ _ _ (c .before .enum-told8 .given .1) (c .taking7 .ensures)
+returns-8 c = by-word _ _ _ _ _ _ (c .before .enum-told8 .given .1) (c .taking7 .ensures)
 
 returns-9 : tie.Need-returns-9
 unfolding askedBy

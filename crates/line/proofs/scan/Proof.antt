@@ -58,6 +58,9 @@ element-copy-out-request-of-3 c = search needs
 element-copy-out-request-of-4 : tie.Need-element-copy-out-request-of-4
 element-copy-out-request-of-4 c = search needs
 
+element-copy-out-request-of-5 : tie.Need-element-copy-out-request-of-5
+element-copy-out-request-of-5 c = search needs
+
 request-of-requires : tie.Need-request-of-requires
 request-of-requires c κs = search needs
 
@@ -70,12 +73,12 @@ returns-3 c =
 
 returns-4 : tie.Need-returns-4
 returns-4 c =
-    let measured = c .before .before .before .before .before .before .before .before .before .before .before .before .before in
+    let measured = c .before .before .before .before .before .before .before .before .before .before .before .before .before .before in
     let l : List ℕ = now (measured .before .before .before .args .line) in
     let word = measured .word-length in
-    let kind = c .before .before .before .before .before .before .before .before .before .before .before .word-of in
-    let read = c .before .before .before .before .before .before .before .before .read-numbers in
-    let count = c .before .before .before .before .before .before .count .given in
+    let kind = c .before .before .before .before .before .before .before .before .before .before .before .before .word-of in
+    let read = c .before .before .before .before .before .before .before .before .before .read-numbers in
+    let count = c .before .before .before .before .before .before .before .count .given in
     scan-read l (word .result) (omega arith) (word .ensures) (read .result) _ (count .0 .0) (kind .result) (c .request-of .result)
     (read .ensures .0)
     (read .ensures .1)
@@ -100,6 +103,7 @@ scan-spec =
     element-copy-out-request-of-2
     element-copy-out-request-of-3
     element-copy-out-request-of-4
+    element-copy-out-request-of-5
     request-of-requires
     returns-3
     returns-4)

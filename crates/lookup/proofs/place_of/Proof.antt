@@ -13,7 +13,7 @@ use Rattle.lookup.proofs.place_of.Tie as tie
 -- a queue has 32 places
 queue-long : (c : tie.Start) → length (c .args .s .queue) ≡ 32
 queue-long c =
-    sym (length-map (c .args .s .queue) (λ (v : ℕ). v)) ∙ c .good .1 .0 .1 .1 .1 .1 .1 .1 .1 .1 .1 .1 .0 .1 .0 .1
+    sym (length-map (c .args .s .queue) (λ (v : ℕ). v)) ∙ c .good .1 .0 .1 .1 .1 .1 .1 .1 .1 .1 .1 .1 .1 .0 .1 .0 .1
 
 is-by-priority-requires : tie.Need-is-by-priority-requires
 is-by-priority-requires c κs = search needs

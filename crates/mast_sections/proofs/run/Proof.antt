@@ -11,7 +11,7 @@ large-buffer-requires : tie.Need-large-buffer-requires
 large-buffer-requires c κs = search needs
 
 slice-aggregate-work : tie.Need-slice-aggregate-work
-slice-aggregate-work c = sym (length-replicate {A = ℕ} 10892 0)
+slice-aggregate-work c = sym (length-replicate {A = ℕ} 11148 0)
 
 slice-aggregate-work-2 : tie.Need-slice-aggregate-work-2
 slice-aggregate-work-2 c = sym (length-replicate {A = ℕ} 1024 0)
@@ -26,7 +26,7 @@ slice-aggregate-work-5 : tie.Need-slice-aggregate-work-5
 slice-aggregate-work-5 c = sym (length-replicate {A = ℕ} 32768 0)
 
 slice-aggregate-work-6 : tie.Need-slice-aggregate-work-6
-slice-aggregate-work-6 c = sym (length-replicate {A = ℕ} 524288 0)
+slice-aggregate-work-6 c = sym (length-replicate {A = ℕ} 655360 0)
 
 slice-aggregate-work-7 : tie.Need-slice-aggregate-work-7
 slice-aggregate-work-7 c = sym (length-replicate {A = ℕ} 257 0)
@@ -38,10 +38,10 @@ work-requires : tie.Need-work-requires
 work-requires c κs = (
   record { bytes = sym laid-unstarted; locals = refl; ids = refl; full = length-replicate {A = ℕ} 257 0 },
   record {
-    bytes = length-replicate {A = ℕ} 10892 0;
+    bytes = length-replicate {A = ℕ} 11148 0;
     cells = length-replicate {A = ℕ} 1024 0;
     scripts = length-replicate {A = ℕ} 32768 0;
-    events = length-replicate {A = ℕ} 524288 0;
+    events = length-replicate {A = ℕ} 655360 0;
   },
 )
 

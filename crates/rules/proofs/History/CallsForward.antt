@@ -40,10 +40,10 @@ agreeing-started t a s =
 same-taken : (s : Slot) (caller place : ℕ) (wait : Wait) → Onward s (takeStep s caller place wait .slot)
 unfolding takeStep
 same-taken s caller place wait =
-    choose-cases P _ _ _ (λ e. onward-same s _ refl refl)
+    choose-cases P _ _ _ (λ e. onward-same s _ refl refl refl)
     (λ e. choose-cases P _ _ _
-    (λ e. choose-cases P _ _ _ (λ e. onward-same s _ refl refl) (λ e. onward-same s _ refl refl))
-    (λ e. choose-cases P _ _ _ (λ e. onward-same s _ refl refl) (λ e. onward-same s _ refl refl)))
+    (λ e. choose-cases P _ _ _ (λ e. onward-same s _ refl refl refl) (λ e. onward-same s _ refl refl refl))
+    (λ e. choose-cases P _ _ _ (λ e. onward-same s _ refl refl refl) (λ e. onward-same s _ refl refl refl)))
   where
     P : Taken → Type 0
     P x = Onward s (x .slot)
@@ -51,17 +51,18 @@ same-taken s caller place wait =
 same-given : (s : Slot) (caller : ℕ) → Onward s (giveStep s caller .slot)
 unfolding giveStep passStep
 same-given s caller =
-    choose-cases P _ _ _ (λ e. onward-same s _ refl refl)
-    (λ e. choose-cases P _ _ _ (λ e. onward-same s _ refl refl)
-    (λ e. choose-cases P _ _ _ (λ e. onward-same s _ refl refl)
-    (λ e. choose-cases P _ _ _ (λ e. onward-same s _ refl refl) (λ e. onward-same s _ refl refl))))
+    choose-cases P _ _ _ (λ e. onward-same s _ refl refl refl)
+    (λ e. choose-cases P _ _ _ (λ e. onward-same s _ refl refl refl)
+    (λ e. choose-cases P _ _ _ (λ e. onward-same s _ refl refl refl)
+    (λ e. choose-cases P _ _ _ (λ e. onward-same s _ refl refl refl) (λ e. onward-same s _ refl refl refl))))
   where
     P : Given → Type 0
     P x = Onward s (x .slot)
 
-newer : (s : Slot) (caller name count attributes : ℕ) → s .generation < maxGeneration → Onward s (newSemaphore (s .generation) caller name count attributes)
+newer : (s : Slot) (caller name count attributes maximum : ℕ) → s .generation < maxGeneration
+    → Onward s (newSemaphore (s .generation) caller name count attributes maximum)
 unfolding newSemaphore
-newer s caller name count attributes h = onward-new s _ (omega arith) h
+newer s caller name count attributes maximum h = onward-new s _ (omega arith) h
 
 -- the outcome's tables are forward of these
 pub record Went (t : Tables) (o : Outcome) : Type 0 where
@@ -87,13 +88,13 @@ module _ (t : Tables) where
   start-went slots priorities h =
       unless-went (startRefusal t slots priorities) _ (λ e. absurd (omega (arith, start-refused slots priorities h)))
 
-  create-went : (caller name count attributes : ℕ) → Went t (create t caller name count attributes)
+  create-went : (caller name count attributes maximum : ℕ) → Went t (create t caller name count attributes maximum)
   unfolding create
-  create-went caller name count attributes =
-      unless-went (createRefusal t caller name count attributes) _
+  create-went caller name count attributes maximum =
+      unless-went (createRefusal t caller name count attributes maximum) _
       (λ e. record {
         forward = forward-put t (openSlot t) _
-            (newer (slotOf t (openSlot t)) caller name count attributes (open-young t (create-passed t caller name count attributes e)));
+            (newer (slotOf t (openSlot t)) caller name count attributes maximum (open-young t (create-passed t caller name count attributes maximum e)));
       })
 
   ident-went : (name : ℕ) → Went t (ident t name)
@@ -127,21 +128,21 @@ module _ (t : Tables) where
   unfolding flush flushStep
   flush-went caller id =
       unless-went (flushRefusal t caller id) _
-      (λ e. record { forward = woken-forward (slotNamed t id) _ _ _ (onward-same (slotOf t (slotNamed t id)) _ refl refl) })
+      (λ e. record { forward = woken-forward (slotNamed t id) _ _ _ (onward-same (slotOf t (slotNamed t id)) _ refl refl refl) })
 
   tick-went : Went t (tick t)
   unfolding tick tickedSlot
   tick-went = record {
     forward = record {
       sameSize = length-map (t .slots) (tickedSlot t);
-      onward = λ n. rw (ticked-slot t n) (onward-same (slotOf t n) _ refl refl);
+      onward = λ n. rw (ticked-slot t n) (onward-same (slotOf t n) _ refl refl refl);
     };
   }
 
 perform-went : (t : Tables) (call : Call) (priorities : List ℕ) → 1 ≤ length (t .tasks) → Went t (perform t call priorities)
 unfolding perform
 perform-went t (Start slots) priorities h = start-went t slots priorities h
-perform-went t (Create caller name count attributes) priorities h = create-went t caller name count attributes
+perform-went t (Create caller name count attributes maximum) priorities h = create-went t caller name count attributes maximum
 perform-went t (Ident name) priorities h = ident-went t name
 perform-went t (Delete caller id) priorities h = delete-went t caller id
 perform-went t (Obtain caller id wait) priorities h = obtain-went t caller id wait

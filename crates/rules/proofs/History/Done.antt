@@ -41,8 +41,8 @@ done-unless t refusal o =
 pub id-parts : (g n : ℕ) → n < 65536 → ((g * 65536 + n) % 65536 ≡ n) × ((g * 65536 + n) / 65536 ≡ g)
 id-parts g n h = omega arith
 
--- a done create: the slot it took, its new generation, and the identifier that it gives
-pub record Created (t : Tables) (o : Outcome) : Type 0 where
+-- a done create: the slot it took, its new generation, the identifier that it gives, and the maximum that it was given
+pub record Created (t : Tables) (maximum : ℕ) (o : Outcome) : Type 0 where
   pub low : 1 ≤ openSlot t
   pub high : openSlot t ≤ length (t .slots)
   pub few : length (t .slots) ≤ maxSlots
@@ -51,10 +51,11 @@ pub record Created (t : Tables) (o : Outcome) : Type 0 where
   pub sameSize : length (o .tables .slots) ≡ length (t .slots)
   pub lives : isLive (slotOf (o .tables) (openSlot t)) ≡ true
   pub generation : slotOf (o .tables) (openSlot t) .generation ≡ slotOf t (openSlot t) .generation + 1
+  pub given : slotOf (o .tables) (openSlot t) .maximum ≡ maximum
 
-module _ (t : Tables) (caller name count attributes : ℕ) where
+module _ (t : Tables) (caller name count attributes maximum : ℕ) where
   abbrev made : Slot
-  made = newSemaphore (slotOf t (openSlot t) .generation) caller name count attributes
+  made = newSemaphore (slotOf t (openSlot t) .generation) caller name count attributes maximum
 
   abbrev left : Tables
   left = putSlot t (openSlot t) made
@@ -70,34 +71,41 @@ module _ (t : Tables) (caller name count attributes : ℕ) where
   unfolding newSemaphore
   made-generation = refl
 
-  create-found : agrees t ≡ true → create t caller name count attributes .answer .status ≡ 0 → Created t (create t caller name count attributes)
+  made-maximum : made .maximum ≡ maximum
+  unfolding newSemaphore
+  made-maximum = refl
+
+  create-found : agrees t ≡ true → create t caller name count attributes maximum .answer .status ≡ 0
+      → Created t maximum (create t caller name count attributes maximum)
   unfolding create
   create-found a e =
-      subst (Created t) (sym (past .1)) (record {
+      subst (Created t maximum) (sym (past .1)) (record {
         low = within .0;
         high = omega (arith, within);
         few = agreeing-started t a (omega (arith, within)) .slots;
-        young = open-young t (create-passed t caller name count attributes (past .0));
+        young = open-young t (create-passed t caller name count attributes maximum (past .0));
         value = ap (λ (g : ℕ). g * 65536 + openSlot t) made-generation;
         sameSize = length-set (t .slots) (pred (openSlot t)) made;
         lives = rw there made-live;
         generation = rw there made-generation;
+        given = rw there made-maximum;
       })
     where
-      past : (createRefusal t caller name count attributes ≡ 0) × (create t caller name count attributes ≡ outcome)
-      past = done-unless t (createRefusal t caller name count attributes) outcome e
+      past : (createRefusal t caller name count attributes maximum ≡ 0) × (create t caller name count attributes maximum ≡ outcome)
+      past = done-unless t (createRefusal t caller name count attributes maximum) outcome e
 
       within : (1 ≤ openSlot t) × (openSlot t < 1 + length (t .slots))
-      within = let h = create-passed t caller name count attributes (past .0) in (omega (arith, h .number), omega (arith, h .number, h .within))
+      within = let h = create-passed t caller name count attributes maximum (past .0) in (omega (arith, h .number), omega (arith, h .number, h .within))
 
       there : slotOf left (openSlot t) ≡ made
       there = getD-set-same (t .slots) (pred (openSlot t)) made (freeSlot 0) (omega (arith, within))
 
-  pub create-done : (priorities : List ℕ) → let o = step t (Create caller name count attributes) priorities in o .answer .status ≡ 0 → Created t o
+  pub create-done : (priorities : List ℕ) → let o = step t (Create caller name count attributes maximum) priorities in o .answer .status ≡ 0
+      → Created t maximum o
   unfolding perform
   create-done priorities e =
-      let p = done-performed t (Create caller name count attributes) priorities e in
-      subst (Created t) (sym (p .1)) (create-found (p .0) (subst (λ (o : Outcome). o .answer .status ≡ 0) (p .1) e))
+      let p = done-performed t (Create caller name count attributes maximum) priorities e in
+      subst (Created t maximum) (sym (p .1)) (create-found (p .0) (subst (λ (o : Outcome). o .answer .status ≡ 0) (p .1) e))
 
 -- a done delete: the identifier named a semaphore, and has ended
 freed : (t : Tables) (n g : ℕ) (qs : List ℕ) (answer : ℕ) → 1 ≤ n → n ≤ length (t .slots) → slotOf (wakeAll (putSlot t n (freeSlot g)) qs answer) n ≡ freeSlot g

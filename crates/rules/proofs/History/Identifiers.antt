@@ -32,8 +32,8 @@ named-or-ended-after t id requests n =
     let u : Used t id = named-used t id n in
     named-or-ended (run-forward t requests (omega arith)) id n
 
-module _ (t : Tables) (o : Outcome) (c : Created t o) where
-  parts : (o .answer .value % 65536 ≡ openSlot t) × (o .answer .value / 65536 ≡ slotOf t (openSlot t) .generation + 1)
+module _ (t : Tables) {m : ℕ} (o : Outcome) (c : Created t m o) where
+  pub parts : (o .answer .value % 65536 ≡ openSlot t) × (o .answer .value / 65536 ≡ slotOf t (openSlot t) .generation + 1)
   parts =
       subst (λ (v : ℕ). (v % 65536 ≡ openSlot t) × (v / 65536 ≡ slotOf t (openSlot t) .generation + 1)) (sym (c .value))
       (id-parts (slotOf t (openSlot t) .generation + 1) (openSlot t) (omega arith))
@@ -64,17 +64,17 @@ deleted-never-names t caller id priorities requests e =
 
 -- an identifier that names nothing, and that no create gives
 never-again : (t : Tables) (id : ℕ) → names t id ≡ false
-    → ((o : Outcome) → Created t o → o .answer .value ≡ id → ⊥) → NeverAgain (λ call priorities. step t call priorities .answer) id
+    → ((m : ℕ) (o : Outcome) → Created t m o → o .answer .value ≡ id → ⊥) → NeverAgain (λ call priorities. step t call priorities .answer) id
 never-again t id n fresh =
     record {
-      notCreated = λ caller name count attributes priorities s. fresh _ (create-done t caller name count attributes priorities s);
+      notCreated = λ caller name count attributes maximum priorities s. fresh _ _ (create-done t caller name count attributes maximum priorities s);
       notFound = λ name priorities s v. never (subst (λ (x : ℕ). names t x ≡ true) v (ident-done t name priorities s)) n;
       refused = unnamed-refused t id n;
     }
 
 -- an identifier that was used and names nothing never comes back
 used-never-again : (t : Tables) (id : ℕ) → Used t id → names t id ≡ false → NeverAgain (λ call priorities. step t call priorities .answer) id
-used-never-again t id u n = never-again t id n (λ o c v. created-unused t o c (subst (Used t) (sym v) u))
+used-never-again t id u n = never-again t id n (λ m o c v. created-unused t o c (subst (Used t) (sym v) u))
 
 -- a deleted identifier is given by no later create or ident, and no later call that takes it is served
 pub deleted-never-again : (t : Tables) (caller id : ℕ) (priorities : List ℕ) (requests : List Request)
@@ -85,20 +85,21 @@ deleted-never-again t caller id priorities requests e =
     used-never-again _ id (d .used) (ended-unnamed _ id d)
 
 -- an identifier that named a semaphore once is never given by a create again
-pub created-is-new : (t : Tables) (id : ℕ) (requests : List Request) (caller name count attributes : ℕ) (priorities : List ℕ) → names t id ≡ true
-    → let a = step (after t requests) (Create caller name count attributes) priorities .answer in a .status ≡ 0 → a .value ≡ id → ⊥
-created-is-new t id requests caller name count attributes priorities n e v =
-    created-unused (after t requests) _ (create-done (after t requests) caller name count attributes priorities e)
+pub created-is-new : (t : Tables) (id : ℕ) (requests : List Request) (caller name count attributes maximum : ℕ) (priorities : List ℕ) → names t id ≡ true
+    → let a = step (after t requests) (Create caller name count attributes maximum) priorities .answer in a .status ≡ 0 → a .value ≡ id → ⊥
+created-is-new t id requests caller name count attributes maximum priorities n e v =
+    created-unused (after t requests) _ (create-done (after t requests) caller name count attributes maximum priorities e)
     (subst (Used (after t requests)) (sym v) (used-after t id requests (named-used t id n)))
 
 -- no two creates of a run give the same identifier
-pub created-once : (t : Tables) (caller name count attributes : ℕ) (priorities : List ℕ) (requests : List Request) (caller′ name′ count′ attributes′ : ℕ)
-    (priorities′ : List ℕ)
-    → let o = step t (Create caller name count attributes) priorities in o .answer .status ≡ 0
-    → let a = step (after (o .tables) requests) (Create caller′ name′ count′ attributes′) priorities′ .answer in a .status ≡ 0 → a .value ≡ o .answer .value → ⊥
-created-once t caller name count attributes priorities requests caller′ name′ count′ attributes′ priorities′ e =
-    created-is-new _ _ requests caller′ name′ count′ attributes′ priorities′
-    (created-named t _ (create-done t caller name count attributes priorities e))
+pub created-once : (t : Tables) (caller name count attributes maximum : ℕ) (priorities : List ℕ) (requests : List Request)
+    (caller′ name′ count′ attributes′ maximum′ : ℕ) (priorities′ : List ℕ)
+    → let o = step t (Create caller name count attributes maximum) priorities in o .answer .status ≡ 0
+    → let a = step (after (o .tables) requests) (Create caller′ name′ count′ attributes′ maximum′) priorities′ .answer in
+    a .status ≡ 0 → a .value ≡ o .answer .value → ⊥
+created-once t caller name count attributes maximum priorities requests caller′ name′ count′ attributes′ maximum′ priorities′ e =
+    created-is-new _ _ requests caller′ name′ count′ attributes′ maximum′ priorities′
+    (created-named t _ (create-done t caller name count attributes maximum priorities e))
 
 -- ---- a slot that was freed at the last generation
 
@@ -144,7 +145,7 @@ retired-never-again t n r requests id e = never-again t′ id unnamed fresh
         ⊎-elim (λ (y : names t′ id ≡ true). never (subst (λ (k : ℕ). isLive (slotOf t′ k) ≡ true) e (names-named t′ id y .lives)) (stays .free))
         (λ (y : names t′ id ≡ false). y) (tested (names t′ id))
 
-    fresh : (o : Outcome) → Created t′ o → o .answer .value ≡ id → ⊥
-    fresh o c v =
+    fresh : (m : ℕ) (o : Outcome) → Created t′ m o → o .answer .value ≡ id → ⊥
+    fresh m o c v =
         let at : openSlot t′ ≡ n = sym (parts t′ o c .0) ∙ ap (λ (x : ℕ). x % 65536) v ∙ e in
         omega (arith, c .young, stays .spent, ap (λ (k : ℕ). slotOf t′ k .generation) at)

@@ -54,7 +54,7 @@ module _ (t : Tables) (id : ℕ) (n : names t id ≡ false) where
   perform-refused : (call : Call) (priorities : List ℕ) → takes call id ≡ true → IsRefusal (perform t call priorities .answer .status)
   unfolding perform takes delete deleteRefusal obtain obtainRefusal release releaseRefusal flush flushRefusal
   perform-refused (Start slots) priorities e = absurd (false≢true e)
-  perform-refused (Create caller name count attributes) priorities e = absurd (false≢true e)
+  perform-refused (Create caller name count attributes maximum) priorities e = absurd (false≢true e)
   perform-refused (Ident name) priorities e = absurd (false≢true e)
   perform-refused (Delete caller i) priorities e =
       subst (λ (k : ℕ). IsRefusal (delete t caller k .answer .status)) (sym (eqb-true i id e)) (task-refused caller _ _)

@@ -16,18 +16,18 @@ use Rattle.rules.specs.declared.Task.{Task}
 use Rattle.rules.specs.Numbers.{maxTasks, maxSlots, allowed, byPriority, isBinary}
 use Rattle.rules.specs.Machine.{Slot, Tables, unstarted, taskOf, slotOf, waits, isLive, idOf}
 use Rattle.rules.specs.Agreement.{Agrees, agrees, sizesFit, numbersFit, answersFit, liveNamed, attributesAllowed, waitersQueued, queuesWait}
-use Rattle.rules.specs.Agreement.{queuesOrdered, queuedAtZero, binariesRight, othersRight, readyAtRest, freeSlotsClear, eachLive, occurs}
+use Rattle.rules.specs.Agreement.{queuesOrdered, queuedAtZero, binariesRight, othersRight, maximaRight, readyAtRest, freeSlotsClear, eachLive, occurs}
 use Rattle.rules.specs.Agreement.{readySequenced, sequenceReady, isReadyTask}
 use Rattle.rules.specs.Agreement.{taskInLimits, answerFits, isQueuedOnce, isAtRest, slotInLimits, isNamedRight, allWaitOn, isOrdered}
-use Rattle.rules.specs.Agreement.{isZeroWhereQueued, isBinaryRight, isOtherRight, isClear}
+use Rattle.rules.specs.Agreement.{isZeroWhereQueued, isBinaryRight, isOtherRight, isMaximumRight, isClear}
 
 pub agrees-true : (t : Tables) → Agrees t → agrees t ≡ true
 unfolding agrees
 agrees-true t a =
     both-and (a .sizes) (both-and (a .numbers) (both-and (a .answers) (both-and (a .named) (both-and (a .attributed)
     (both-and (a .waiters)
-    (both-and (a .queues) (both-and (a .ordered) (both-and (a .atZero) (both-and (a .owned) (both-and (a .unowned) (both-and (a .atRest)
-    (both-and (a .clear) (both-and (a .sequenced) (a .onlyReady))))))))))))))
+    (both-and (a .queues) (both-and (a .ordered) (both-and (a .atZero) (both-and (a .owned) (both-and (a .unowned) (both-and (a .maxima)
+    (both-and (a .atRest) (both-and (a .clear) (both-and (a .sequenced) (a .onlyReady)))))))))))))))
 
 pub true-agrees : (t : Tables) → agrees t ≡ true → Agrees t
 unfolding agrees
@@ -46,6 +46,7 @@ true-agrees t e₁ =
     let e₁₃ = and-both _ _ (e₁₂ .1) in
     let e₁₄ = and-both _ _ (e₁₃ .1) in
     let e₁₅ = and-both _ _ (e₁₄ .1) in
+    let e₁₆ = and-both _ _ (e₁₅ .1) in
     record {
       sizes = e₂ .0;
       numbers = e₃ .0;
@@ -58,10 +59,11 @@ true-agrees t e₁ =
       atZero = e₁₀ .0;
       owned = e₁₁ .0;
       unowned = e₁₂ .0;
-      atRest = e₁₃ .0;
-      clear = e₁₄ .0;
-      sequenced = e₁₅ .0;
-      onlyReady = e₁₅ .1;
+      maxima = e₁₃ .0;
+      atRest = e₁₄ .0;
+      clear = e₁₅ .0;
+      sequenced = e₁₆ .0;
+      onlyReady = e₁₆ .1;
     }
 
 -- ---- N and S
@@ -108,6 +110,7 @@ pub record LiveAgrees (t : Tables) (n : ℕ) (s : Slot) : Type 0 where
   pub atZero : isZeroWhereQueued s ≡ true
   pub owned : isBinary (s .attributes) ≡ true → isBinaryRight (length (t .tasks)) s ≡ true
   pub unowned : isBinary (s .attributes) ≡ false → isOtherRight s ≡ true
+  pub maximum : isMaximumRight s ≡ true
 
 pub record SlotAgrees (t : Tables) (n : ℕ) (s : Slot) : Type 0 where
   pub numbers : slotInLimits s ≡ true
@@ -127,8 +130,7 @@ module _ (t : Tables) where
 
   pub agrees-items : Agrees t → ItemsAgree t
   unfolding numbersFit answersFit liveNamed attributesAllowed waitersQueued queuesWait queuesOrdered queuedAtZero binariesRight othersRight
-      readyAtRest freeSlotsClear
-      readySequenced sequenceReady
+      maximaRight readyAtRest freeSlotsClear readySequenced sequenceReady
   agrees-items a =
       let numbers = and-both _ _ (a .numbers) in
       record {
@@ -150,6 +152,7 @@ module _ (t : Tables) where
             atZero = live-at (λ n s. isZeroWhereQueued s) (a .atZero) j h l;
             owned = when-then _ _ (live-at (λ n s. when (isBinary (s .attributes)) (isBinaryRight (length (t .tasks)) s)) (a .owned) j h l);
             unowned = λ b. when-then _ _ (live-at (λ n s. when (isnt (isBinary (s .attributes))) (isOtherRight s)) (a .unowned) j h l) (false-isnt _ b);
+            maximum = live-at (λ n s. isMaximumRight s) (a .maxima) j h l;
           };
           whenFree = λ l. when-then _ _ (all-at _ _ (a .clear) j h) (false-isnt _ l);
         };
@@ -158,8 +161,7 @@ module _ (t : Tables) where
 
   pub items-agree : ItemsAgree t → Agrees t
   unfolding numbersFit answersFit liveNamed attributesAllowed waitersQueued queuesWait queuesOrdered queuedAtZero binariesRight othersRight
-      readyAtRest freeSlotsClear
-      readySequenced sequenceReady
+      maximaRight readyAtRest freeSlotsClear readySequenced sequenceReady
   items-agree a =
       record {
         sizes = a .sizes;
@@ -173,6 +175,7 @@ module _ (t : Tables) where
         atZero = each (λ n s. isZeroWhereQueued s) (λ j h l. live j h l .atZero);
         owned = each (λ n s. when (isBinary (s .attributes)) (isBinaryRight (length (t .tasks)) s)) (λ j h l. then-when _ _ (live j h l .owned));
         unowned = each (λ n s. when (isnt (isBinary (s .attributes))) (isOtherRight s)) (λ j h l. then-when _ _ (λ b. live j h l .unowned (isnt-false _ b)));
+        maxima = each (λ n s. isMaximumRight s) (λ j h l. live j h l .maximum);
         atRest = all-of _ _ (λ i h. then-when _ _ (λ w. a .task i h .atRest (isnt-false _ w)));
         clear = all-of _ _ (λ j h. then-when _ _ (λ l. a .slot j h .whenFree (isnt-false _ l)));
         sequenced = all-of _ _ (λ i h. then-when _ _ (λ w. a .task i h .sequenced (isnt-false _ w)));

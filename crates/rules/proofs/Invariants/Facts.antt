@@ -2,16 +2,16 @@
 use mathlib.Core.Path.{_≡_, refl}
 use mathlib.Core.Bool.{Bool, true, false}
 use mathlib.Core.List.{List}
-use mathlib.Core.Logic.{_⊎_}
+use mathlib.Core.Logic.{_⊎_, ⊎-elim}
 use Prim.Native.Nat.{ℕ, suc, _≤_, _<_}
 use native.Mathlib.Omega.{arith}
 use native.Mathlib.Decide.{decLt}
 use lib.Dec.{eqb}
 use lib.ListN.{length, getD, List·getD-eq-default}
-use Rattle.laws.specs.Choose.{choose, _and_, bit}
-use Rattle.laws.proofs.Choose.{never}
+use Rattle.laws.specs.Choose.{choose, _and_, _or_, bit}
+use Rattle.laws.proofs.Choose.{tested, never, choose-cases}
 use Rattle.rules.specs.declared.Task.{Task}
-use Rattle.rules.specs.Numbers.{maxPriority, maxGeneration, maxNumber, allowed, byPriority, isBinary, isSimple}
+use Rattle.rules.specs.Numbers.{maxPriority, maxGeneration, maxNumber, allowed, byPriority, isBinary, isSimple, classMaximum}
 use Rattle.rules.specs.Machine.{Slot, Tables, noTask, freeSlot, waits, isLive, urgency, idOf}
 use Rattle.rules.specs.Agreement.{occurs, isReadyTask, answerFits, sizesFit}
 use Rattle.rules.proofs.Invariants.Lists.{Ascending}
@@ -53,6 +53,12 @@ pub record Unowned (s : Slot) : Type 0 where
   pub nest : s .nest ≡ 0
   pub simple : isSimple (s .attributes) ≡ true → s .count ≤ 1
 
+-- its maximum is one that create allows, and the count at most that
+pub record MaximumFits (s : Slot) : Type 0 where
+  pub least : 1 ≤ s .maximum
+  pub most : s .maximum ≤ classMaximum (s .attributes)
+  pub count : s .count ≤ s .maximum
+
 -- what is true of a live slot, with the urgencies u of N tasks
 pub record LiveFits (N : ℕ) (u : ℕ → ℕ) (s : Slot) : Type 0 where
   pub generation : 1 ≤ s .generation
@@ -63,6 +69,7 @@ pub record LiveFits (N : ℕ) (u : ℕ → ℕ) (s : Slot) : Type 0 where
   pub atZero : 1 ≤ length (s .queue) → s .count ≡ 0
   pub owned : isBinary (s .attributes) ≡ true → Unheld s ⊎ Held N s
   pub unowned : isBinary (s .attributes) ≡ false → Unowned s
+  pub maximum : MaximumFits s
 
 -- of a free slot
 pub record FreeFits (s : Slot) : Type 0 where
@@ -71,6 +78,7 @@ pub record FreeFits (s : Slot) : Type 0 where
   pub count : s .count ≡ 0
   pub owner : s .owner ≡ 0
   pub nest : s .nest ≡ 0
+  pub maximum : s .maximum ≡ 0
   pub queue : length (s .queue) ≡ 0
 
 -- of each slot
@@ -122,8 +130,17 @@ free-fits N u g h =
       count = omega arith;
       nest = omega arith;
       whenLive = λ e. never e refl;
-      whenFree = λ e. record { name = refl; attributes = refl; count = refl; owner = refl; nest = refl; queue = refl };
+      whenFree = λ e. record { name = refl; attributes = refl; count = refl; owner = refl; nest = refl; maximum = refl; queue = refl };
     }
+
+-- no class has a greater maximum than 4294967295
+pub class-within : (a : ℕ) → classMaximum a ≤ maxNumber
+class-within a = choose-cases (λ (n : ℕ). n ≤ maxNumber) (isBinary a or isSimple a) 1 maxNumber (λ e. omega arith) (λ e. omega arith)
+
+pub maximum-within : (N : ℕ) (u : ℕ → ℕ) (s : Slot) → SlotFits N u s → s .maximum ≤ maxNumber
+maximum-within N u s f =
+    ⊎-elim (λ (l : isLive s ≡ true). omega (arith, f .whenLive l .maximum .most, class-within (s .attributes)))
+    (λ (l : isLive s ≡ false). omega (arith, f .whenFree l .maximum)) (tested (isLive s))
 
 -- what is so outside and at every place within is so everywhere
 pub everywhere : {A : Type 0} (P : A → Type 0) (xs : List A) (d : A) → P d → ((i : ℕ) → i < length xs → P (getD xs i d)) → (i : ℕ) → P (getD xs i d)

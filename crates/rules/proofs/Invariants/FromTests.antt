@@ -15,7 +15,7 @@ use Rattle.rules.specs.Machine.{Tables, noTask, freeSlot, slotOf, waits,
 use Rattle.rules.specs.Agreement.{Agrees, isWaiter, isReadyTask, occurs}
 use Rattle.rules.proofs.Invariants.Lists.{ascending-of, bit-yes, bit-no, occurs-not}
 use Rattle.rules.proofs.Invariants.Agreeing.{LiveAgrees, ItemsAgree, sizes-within, agrees-items}
-use Rattle.rules.proofs.Invariants.Facts.{nthTask, nthSlot, waitsOn, TaskFits, Unheld, Held, Unowned, LiveFits, FreeFits, SlotFits, Names}
+use Rattle.rules.proofs.Invariants.Facts.{nthTask, nthSlot, waitsOn, TaskFits, Unheld, Held, Unowned, MaximumFits, LiveFits, FreeFits, SlotFits, Names}
 use Rattle.rules.proofs.Invariants.Facts.{Counted, Facts, none-fits, free-fits, everywhere, waits-within, live-within}
 
 -- an identifier that names a live semaphore is that of a live slot
@@ -73,6 +73,12 @@ module _ (t : Tables) (a : ItemsAgree t) where
         let g = and-both _ _ (f .1) in
         record { owner = eqb-true _ _ (f .0); nest = eqb-true _ _ (g .0); simple = λ s. leb-true _ _ (when-then _ _ (g .1) s) }
 
+    slot-maximum : isLive (nthSlot t j) ≡ true → MaximumFits (nthSlot t j)
+    slot-maximum l =
+        let f = and-both _ _ (live l .maximum) in
+        let g = and-both _ _ (f .0) in
+        record { least = leb-true _ _ (g .0); most = leb-true _ _ (g .1); count = leb-true _ _ (f .1) }
+
     slot-live : isLive (nthSlot t j) ≡ true → LiveFits (length (t .tasks)) (urgency t) (nthSlot t j)
     slot-live l =
         let n = and-both _ _ (live l .named) in
@@ -86,6 +92,7 @@ module _ (t : Tables) (a : ItemsAgree t) where
           atZero = λ q. eqb-true _ _ (when-then _ _ (live l .atZero) (le-leb _ _ q));
           owned = slot-owned l;
           unowned = slot-unowned l;
+          maximum = slot-maximum l;
         }
 
     slot-free : isLive (nthSlot t j) ≡ false → FreeFits (nthSlot t j)
@@ -95,13 +102,15 @@ module _ (t : Tables) (a : ItemsAgree t) where
         let e₃ = and-both _ _ (e₂ .1) in
         let e₄ = and-both _ _ (e₃ .1) in
         let e₅ = and-both _ _ (e₄ .1) in
+        let e₆ = and-both _ _ (e₅ .1) in
         record {
           name = eqb-true _ _ (e₁ .0);
           attributes = eqb-true _ _ (e₂ .0);
           count = eqb-true _ _ (e₃ .0);
           owner = eqb-true _ _ (e₄ .0);
           nest = eqb-true _ _ (e₅ .0);
-          queue = eqb-true _ _ (e₅ .1);
+          maximum = eqb-true _ _ (e₆ .0);
+          queue = eqb-true _ _ (e₆ .1);
         }
 
     slot-fits : SlotFits (length (t .tasks)) (urgency t) (nthSlot t j)

@@ -34,9 +34,8 @@ ident-kept t name f =
 perform-kept : (t : Tables) (call : Call) (priorities : List ℕ) → callFits call ≡ true → Facts t → Facts (perform t call priorities .tables)
 unfolding perform
 perform-kept t (Start slots) priorities e f = start-kept t slots priorities f
-perform-kept t (Create caller name count attributes) priorities e f =
-    let rest = and-both _ _ (and-both _ _ e .1) in
-    create-kept t caller name count attributes (leb-true _ _ (rest .0)) (leb-true _ _ (and-both _ _ (rest .1) .0)) f
+perform-kept t (Create caller name count attributes maximum) priorities e f =
+    create-kept t caller name count attributes maximum (leb-true _ _ (and-both _ _ (and-both _ _ e .1) .0)) f
 perform-kept t (Ident name) priorities e f = ident-kept t name f
 perform-kept t (Delete caller id) priorities e f = delete-kept t caller id f
 perform-kept t (Obtain caller id wait) priorities e f =

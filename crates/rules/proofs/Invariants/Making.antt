@@ -2,17 +2,16 @@
 use mathlib.Core.Path.{_≡_, refl, sym, subst, subst₂, fun-ext, ap, _∙_}
 use mathlib.Core.Bool.{Bool, true, false}
 use mathlib.Core.List.{List, [], _∷_}
-use mathlib.Core.Logic.{⊎-elim}
 use Prim.Native.Nat.{ℕ, suc, pred, _+_, _≤_, _<_}
 use native.Mathlib.Omega.{arith}
 use lib.Dec.{leb, ltb, eqb}
 use lib.ListN.{length, getD, replicate, length-map, length-replicate, getD-replicate, List·getD-map}
-use borrow.Author.Tests.{eqb-false, leb-true, leb-false, ltb-true}
+use borrow.Author.Tests.{eqb-false, leb-true, ltb-true}
 use Rattle.laws.specs.Choose.{choose, _and_, _or_, isnt, bit}
-use Rattle.laws.proofs.Choose.{tested, never, and-both, both-and, or-second, isnt-false, false-isnt, same-test, choose-cases}
+use Rattle.laws.proofs.Choose.{never, and-both, both-and, or-second, isnt-false, false-isnt, same-test, choose-cases}
 use Rattle.laws.specs.All.{all}
 use Rattle.laws.proofs.All.{all-at}
-use Rattle.rules.specs.Numbers.{maxTasks, maxSlots, maxPriority, maxGeneration, maxNumber, within, allowed, isBinary, isSimple}
+use Rattle.rules.specs.Numbers.{maxTasks, maxSlots, maxPriority, maxGeneration, maxNumber, within, allowed, classMaximum, allowedCount}
 use Rattle.rules.specs.Machine.{Slot, Tables, freeSlot, slotOf, putSlot, isLive, waits}
 use Rattle.rules.specs.Agreement.{sizesFit, isReadyTask}
 use Rattle.rules.specs.Calls.{newTask, startRefusal, started, start, firstFree, openSlot, createRefusal, newSemaphore, create, answered}
@@ -108,48 +107,57 @@ first-free (s ∷ ss) m =
     later o =
         record { place = suc (o .place); within = omega (arith, o .within); number = omega (arith, o .number); free = o .free; generation = o .generation }
 
-new-queue : (g caller name count attributes : ℕ) → length (newSemaphore g caller name count attributes .queue) ≡ 0
+new-queue : (g caller name count attributes maximum : ℕ) → length (newSemaphore g caller name count attributes maximum .queue) ≡ 0
 unfolding newSemaphore
-new-queue g caller name count attributes = refl
+new-queue g caller name count attributes maximum = refl
 
 -- what a create that is not refused has checked
-record Checked (t : Tables) (caller name count attributes : ℕ) : Type 0 where
+record Checked (t : Tables) (caller name count attributes maximum : ℕ) : Type 0 where
   who : Caller t caller
   named : 1 ≤ name
   right : allowed attributes ≡ true
-  small : (isBinary attributes or isSimple attributes) ≡ true → count ≤ 1
+  least : 1 ≤ maximum
+  most : maximum ≤ classMaximum attributes
+  below : count ≤ maximum
   room : Open (t .slots) 0 (openSlot t)
 
-create-checked : (t : Tables) (caller name count attributes : ℕ) → createRefusal t caller name count attributes ≡ 0 → Checked t caller name count attributes
+create-checked : (t : Tables) (caller name count attributes maximum : ℕ) → createRefusal t caller name count attributes maximum ≡ 0
+    → Checked t caller name count attributes maximum
 unfolding createRefusal
-create-checked t caller name count attributes e =
+create-checked t caller name count attributes maximum e =
     let who = task-only t caller _ e in
     let named = mustnt (eqb name 0) 3 _ (omega arith) (who .1) in
     let right = must (allowed attributes) _ 11 (omega arith) (named .1) in
-    let small = mustnt ((isBinary attributes or isSimple attributes) and leb 2 count) 10 _ (omega arith) (right .1) in
-    let room = mustnt (eqb (openSlot t) 0) 5 0 (omega arith) (small .1) in
+    let numbers = must (allowedCount count attributes maximum) _ 10 (omega arith) (right .1) in
+    let room = mustnt (eqb (openSlot t) 0) 5 0 (omega arith) (numbers .1) in
     let nameless : name ≡ 0 → ⊥ = eqb-false _ _ (named .0) in
     let some : openSlot t ≡ 0 → ⊥ = eqb-false _ _ (room .0) in
-    record { who = who .0; named = omega arith; right = right .0; small = limited (small .0); room = first-free (t .slots) 0 (omega arith) }
-  where
-    limited : ((isBinary attributes or isSimple attributes) and leb 2 count) ≡ false → (isBinary attributes or isSimple attributes) ≡ true → count ≤ 1
-    limited e b =
-        ⊎-elim (λ (m : leb 2 count ≡ true). never (both-and b m) e) (λ (m : leb 2 count ≡ false). omega (arith, leb-false 2 count m)) (tested (leb 2 count))
+    let within = and-both _ _ (and-both _ _ (numbers .0) .0) in
+    record {
+      who = who .0;
+      named = omega arith;
+      right = right .0;
+      least = leb-true _ _ (within .0);
+      most = leb-true _ _ (within .1);
+      below = leb-true _ _ (and-both _ _ (numbers .0) .1);
+      room = first-free (t .slots) 0 (omega arith);
+    }
 
-pub create-kept : (t : Tables) (caller name count attributes : ℕ) → name ≤ maxNumber → count ≤ maxNumber → Facts t
-    → Facts (create t caller name count attributes .tables)
+pub create-kept : (t : Tables) (caller name count attributes maximum : ℕ) → name ≤ maxNumber → Facts t
+    → Facts (create t caller name count attributes maximum .tables)
 unfolding create
-create-kept t caller name count attributes name-fits count-fits f =
-    unless-kept (createRefusal t caller name count attributes) t (answered 0 _ (putSlot t (openSlot t) (made (openSlot t)))) f
-    (λ e. at (openSlot t) (create-checked t caller name count attributes e) (create-checked t caller name count attributes e .room))
+create-kept t caller name count attributes maximum name-fits f =
+    unless-kept (createRefusal t caller name count attributes maximum) t (answered 0 _ (putSlot t (openSlot t) (made (openSlot t)))) f
+    (λ e. at (openSlot t) (create-checked t caller name count attributes maximum e) (create-checked t caller name count attributes maximum e .room))
   where
     made : ℕ → Slot
-    made n = newSemaphore (slotOf t n .generation) caller name count attributes
+    made n = newSemaphore (slotOf t n .generation) caller name count attributes maximum
 
-    at : (n : ℕ) → Checked t caller name count attributes → Open (t .slots) 0 n → Facts (putSlot t n (made n))
+    at : (n : ℕ) → Checked t caller name count attributes maximum → Open (t .slots) 0 n → Facts (putSlot t n (made n))
     at n k o =
         let number : n ≡ suc (o .place) = omega (arith, o .number) in
         subst (λ (n : ℕ). Facts (putSlot t n (made n))) (sym number)
         (created t f (o .place) (made (suc (o .place))) (o .within) (o .free)
-        (new-fits _ _ _ caller name count attributes (o .generation) (k .who .first) (k .who .last) (k .named) name-fits count-fits (k .right) (k .small))
-        (new-queue _ caller name count attributes))
+        (new-fits _ _ _ caller name count attributes maximum (o .generation) (k .who .first) (k .who .last) (k .named) name-fits (k .right) (k .least) (k .most)
+        (k .below))
+        (new-queue _ caller name count attributes maximum))

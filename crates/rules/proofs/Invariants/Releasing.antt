@@ -9,7 +9,7 @@ use lib.ListN.{length, getD, drop}
 use borrow.Author.Tests.{eqb-false, leb-true, leb-false, ne-eqb}
 use Rattle.laws.specs.Choose.{choose, bit, _and_, isnt}
 use Rattle.laws.proofs.Choose.{if-yes, if-no, and-both, choose-cases}
-use Rattle.rules.specs.Numbers.{isBinary, maximum}
+use Rattle.rules.specs.Numbers.{isBinary}
 use Rattle.rules.specs.Machine.{Slot, Tables, slotOf, putSlot, isLive, urgency, idOf, names, slotNamed}
 use Rattle.rules.specs.Agreement.{occurs}
 use Rattle.rules.specs.Semaphore.{ownedBy, handed, Given, giveStep, passStep}
@@ -66,7 +66,7 @@ module _ (t : Tables) (f : Facts t) (j : ℕ) (l : isLive (nthSlot t j) ≡ true
       (λ b. choose-cases Keeps (isBinary (nthSlot t j .attributes) and leb 2 (nthSlot t j .nest)) _ _
       (λ e. given-back _ (replaced t f j _ l (unnest-fits N u s fits l (and-both _ _ e .0) (leb-true _ _ (and-both _ _ e .1))) refl refl l))
       (λ e. choose-cases Keeps (leb 1 (length (nthSlot t j .queue))) _ _ (λ q z. handed-on (getD (nthSlot t j .queue) 0 0) refl (leb-true _ _ q))
-      (λ q. choose-cases Keeps (eqb (nthSlot t j .count) (maximum (nthSlot t j .attributes))) _ _ (λ m e. absurd (omega arith))
+      (λ q. choose-cases Keeps (eqb (nthSlot t j .count) (nthSlot t j .maximum)) _ _ (λ m e. absurd (omega arith))
       (λ m. given-back _ (replaced t f j _ l (give-fits N u s fits l (empty q) (eqb-false _ _ m)) refl refl l)))))
     where
       N : ℕ

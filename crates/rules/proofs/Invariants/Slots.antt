@@ -10,22 +10,22 @@ use lib.Dec.{eqb}
 use lib.ListN.{length, getD, drop}
 use borrow.Author.Tests.{eqb-true, eqb-false, eq-eqb, ne-eqb}
 use Rattle.laws.specs.Choose.{choose, bit, _and_, _or_}
-use Rattle.laws.proofs.Choose.{tested, never, if-yes, if-no, both-and, or-either, or-first, or-second, false-isnt, choose-cases}
-use Rattle.rules.specs.Numbers.{maxGeneration, maxNumber, allowed, byPriority, isBinary, isSimple, maximum}
+use Rattle.laws.proofs.Choose.{tested, never, if-yes, if-no, both-and, or-first, or-second, false-isnt, choose-cases}
+use Rattle.rules.specs.Numbers.{maxGeneration, maxNumber, allowed, byPriority, isBinary, isSimple, classMaximum}
 use Rattle.rules.specs.Machine.{Slot, isLive}
 use Rattle.rules.specs.Agreement.{occurs}
 use Rattle.rules.specs.Semaphore.{placeOf, insertAt, counted, ownedBy, handed, flushStep}
 use Rattle.rules.specs.Calls.{newSemaphore}
 use Rattle.rules.proofs.Invariants.Lists.{Ascending, ascending-insert, ascending-rest, bit-yes, bit-no, occurs-empty, occurs-none}
 use Rattle.rules.proofs.Invariants.Lists.{occurs-insert, occurs-first}
-use Rattle.rules.proofs.Invariants.Facts.{Unheld, Held, Unowned, LiveFits, SlotFits}
+use Rattle.rules.proofs.Invariants.Facts.{Unheld, Held, Unowned, LiveFits, SlotFits, class-within, maximum-within}
 
 module _ (N : ℕ) (u : ℕ → ℕ) (s : Slot) (fits : SlotFits N u s) (l : isLive s ≡ true) where
   live : LiveFits N u s
   live = fits .whenLive l
 
   -- a step changes count, owner, nest and queue only
-  pub counted-fits : (count owner nest : ℕ) (queue : List ℕ) → count ≤ maxNumber → nest ≤ maxNumber → occurs 0 queue ≡ 0
+  pub counted-fits : (count owner nest : ℕ) (queue : List ℕ) → count ≤ s .maximum → nest ≤ maxNumber → occurs 0 queue ≡ 0
       → (byPriority (s .attributes) ≡ true → Ascending u 0 queue) → (1 ≤ length queue → count ≡ 0)
       → (isBinary (s .attributes) ≡ true → Unheld (counted s count owner nest queue) ⊎ Held N (counted s count owner nest queue))
       → (isBinary (s .attributes) ≡ false → Unowned (counted s count owner nest queue))
@@ -35,7 +35,7 @@ module _ (N : ℕ) (u : ℕ → ℕ) (s : Slot) (fits : SlotFits N u s) (l : isL
         generation = fits .generation;
         live = fits .live;
         name = fits .name;
-        count = c;
+        count = omega (arith, c, maximum-within N u s fits);
         nest = n;
         whenLive = λ m.
             record {
@@ -47,6 +47,7 @@ module _ (N : ℕ) (u : ℕ → ℕ) (s : Slot) (fits : SlotFits N u s) (l : isL
               atZero = atZero;
               owned = owned;
               unowned = unowned;
+              maximum = record { least = live .maximum .least; most = live .maximum .most; count = c };
             };
         whenFree = λ e. never l e;
       }
@@ -65,7 +66,7 @@ module _ (N : ℕ) (u : ℕ → ℕ) (s : Slot) (fits : SlotFits N u s) (l : isL
     pub take-fits : 1 ≤ s .count → SlotFits N u
         (counted s (s .count - 1) (choose (isBinary (s .attributes)) caller (s .owner)) (choose (isBinary (s .attributes)) 1 (s .nest)) (s .queue))
     take-fits h =
-        counted-fits _ _ _ (s .queue) (omega (arith, fits .count))
+        counted-fits _ _ _ (s .queue) (omega (arith, live .maximum .count))
         (choose-cases (λ (n : ℕ). n ≤ maxNumber) (isBinary (s .attributes)) 1 (s .nest) (λ b. omega arith) (λ b. fits .nest))
         (live .entries) (live .ordered) (λ q. omega (arith, unqueued h)) owned unowned
       where
@@ -96,7 +97,7 @@ module _ (N : ℕ) (u : ℕ → ℕ) (s : Slot) (fits : SlotFits N u s) (l : isL
     pub nest-fits : isBinary (s .attributes) ≡ true → s .owner ≡ caller → s .nest ≢ maxNumber
         → SlotFits N u (counted s (s .count) (s .owner) (s .nest + 1) (s .queue))
     nest-fits b o n =
-        counted-fits _ _ _ (s .queue) (fits .count) (omega (arith, fits .nest)) (live .entries) (live .ordered) (live .atZero)
+        counted-fits _ _ _ (s .queue) (live .maximum .count) (omega (arith, fits .nest)) (live .entries) (live .ordered) (live .atZero)
         (λ m. ⊎-elim (λ (z : Unheld s). absurd (omega (arith, z .owner)))
         (λ (z : Held N s). inr (record { count = z .count; task = z .task; most = z .most; apart = z .apart; nest = omega arith }))
         (live .owned b))
@@ -106,7 +107,7 @@ module _ (N : ℕ) (u : ℕ → ℕ) (s : Slot) (fits : SlotFits N u s) (l : isL
         → SlotFits N u (counted s (s .count) (s .owner) (s .nest) (insertAt (placeOf u s caller) caller (s .queue)))
     unfolding placeOf
     join-fits h n =
-        counted-fits _ _ _ (insertAt (placeOf u s caller) caller (s .queue)) (fits .count) (fits .nest)
+        counted-fits _ _ _ (insertAt (placeOf u s caller) caller (s .queue)) (live .maximum .count) (fits .nest)
         (omega (arith, occurs-insert 0 caller (placeOf u s caller) (s .queue), live .entries, bit-no _ (ne-eqb 0 caller (omega arith))))
         (λ b. subst (λ (k : ℕ). Ascending u 0 (insertAt k caller (s .queue))) (sym (if-yes _ _ b))
         (ascending-insert u caller 0 (s .queue) (omega arith) (live .ordered b)))
@@ -131,7 +132,7 @@ module _ (N : ℕ) (u : ℕ → ℕ) (s : Slot) (fits : SlotFits N u s) (l : isL
 
   pub unnest-fits : isBinary (s .attributes) ≡ true → 2 ≤ s .nest → SlotFits N u (counted s (s .count) (s .owner) (s .nest - 1) (s .queue))
   unnest-fits b n =
-      counted-fits _ _ _ (s .queue) (fits .count) (omega (arith, fits .nest)) (live .entries) (live .ordered) (live .atZero)
+      counted-fits _ _ _ (s .queue) (live .maximum .count) (omega (arith, fits .nest)) (live .entries) (live .ordered) (live .atZero)
       (λ m. ⊎-elim (λ (z : Unheld s). absurd (omega (arith, z .nest)))
       (λ (z : Held N s). inr (record { count = z .count; task = z .task; most = z .most; apart = z .apart; nest = omega arith }))
       (live .owned b))
@@ -140,7 +141,7 @@ module _ (N : ℕ) (u : ℕ → ℕ) (s : Slot) (fits : SlotFits N u s) (l : isL
   -- the first in the queue is a task of the N, and stands there once
   pub hand-fits : (q : ℕ) → q ≡ getD (s .queue) 0 0 → 1 ≤ length (s .queue) → 1 ≤ q → q ≤ N → occurs q (s .queue) ≤ 1 → SlotFits N u (handed s q)
   hand-fits q is h first last once =
-      counted-fits _ _ _ (drop 1 (s .queue)) (fits .count)
+      counted-fits _ _ _ (drop 1 (s .queue)) (live .maximum .count)
       (choose-cases (λ (n : ℕ). n ≤ maxNumber) (isBinary (s .attributes)) 1 (s .nest) (λ b. omega arith) (λ b. fits .nest))
       (omega (arith, occurs-first 0 (s .queue) h, live .entries)) (λ b. ascending-rest u 0 (s .queue) (live .ordered b)) (λ m. live .atZero h) owned unowned
     where
@@ -157,60 +158,39 @@ module _ (N : ℕ) (u : ℕ → ℕ) (s : Slot) (fits : SlotFits N u s) (l : isL
           let z = live .unowned b in
           record { owner = if-no _ _ b ∙ z .owner; nest = if-no _ _ b ∙ z .nest; simple = z .simple }
 
-  -- a class with a limit of 1 has a count of at most 1
-  limited : (isBinary (s .attributes) or isSimple (s .attributes)) ≡ true → s .count ≤ 1
-  limited e =
-      ⊎-elim
-      (λ (b : isBinary (s .attributes) ≡ true). ⊎-elim (λ (z : Unheld s). omega (arith, z .count)) (λ (z : Held N s). omega (arith, z .count)) (live .owned b))
-      (λ (b : isBinary (s .attributes) ≡ false).
-      ⊎-elim (λ (m : isBinary (s .attributes) ≡ true). never m b) (λ (m : isSimple (s .attributes) ≡ true). live .unowned b .simple m) (or-either _ _ e))
-      (tested (isBinary (s .attributes)))
+  -- both binary classes have the maximum 1
+  most-one : (isBinary (s .attributes) or isSimple (s .attributes)) ≡ true → s .maximum ≤ 1
+  most-one e = subst (λ (n : ℕ). s .maximum ≤ n) (if-yes _ _ e) (live .maximum .most)
 
-  limit-one : (isBinary (s .attributes) or isSimple (s .attributes)) ≡ true → maximum (s .attributes) ≡ 1
-  limit-one e = if-yes _ _ e
-
-  limit-most : (isBinary (s .attributes) or isSimple (s .attributes)) ≡ false → maximum (s .attributes) ≡ maxNumber
-  limit-most e = if-no _ _ e
-
-  pub give-fits : length (s .queue) ≡ 0 → s .count ≢ maximum (s .attributes) → SlotFits N u (counted s (s .count + 1) 0 0 (s .queue))
+  pub give-fits : length (s .queue) ≡ 0 → s .count ≢ s .maximum → SlotFits N u (counted s (s .count + 1) 0 0 (s .queue))
   give-fits empty n =
-      counted-fits _ _ _ (s .queue)
-      (⊎-elim (λ (e : (isBinary (s .attributes) or isSimple (s .attributes)) ≡ true). omega (arith, limited e))
-      (λ (e : (isBinary (s .attributes) or isSimple (s .attributes)) ≡ false). omega (arith, limit-most e, fits .count))
-      (tested (isBinary (s .attributes) or isSimple (s .attributes))))
-      (omega arith) (live .entries) (live .ordered) (λ q. omega arith)
-      (λ b. let e : (isBinary (s .attributes) or isSimple (s .attributes)) ≡ true = or-first _ _ b in inl
-      (record { count = omega (arith, limited e, limit-one e); owner = refl; nest = refl }))
-      (λ b. record {
-        owner = refl;
-        nest = refl;
-        simple = λ m. let e :
-            (isBinary (s .attributes) or isSimple (s .attributes)) ≡ true = or-second _ _ m in omega (arith, limited e, limit-one e);
-      })
+      let below = live .maximum .count in
+      counted-fits _ _ _ (s .queue) (omega arith) (omega arith) (live .entries) (live .ordered) (λ q. omega arith)
+      (λ b. inl (record { count = omega (arith, most-one (or-first _ _ b)); owner = refl; nest = refl }))
+      (λ b. record { owner = refl; nest = refl; simple = λ m. omega (arith, most-one (or-second _ _ m)) })
 
   -- ---- flush
 
   pub flush-fits : SlotFits N u (flushStep s)
   unfolding flushStep
   flush-fits =
-      counted-fits _ _ _ [] (fits .count) (fits .nest) (occurs-none 0) (λ b. tt) (λ q. absurd (omega arith))
+      counted-fits _ _ _ [] (live .maximum .count) (fits .nest) (occurs-none 0) (λ b. tt) (λ q. absurd (omega arith))
       (λ b. ⊎-elim (λ (z : Unheld s). inl (record { count = z .count; owner = z .owner; nest = z .nest }))
       (λ (z : Held N s). inr (record { count = z .count; task = z .task; most = z .most; apart = occurs-none _; nest = z .nest })) (live .owned b))
       (λ b. let z = live .unowned b in record { owner = z .owner; nest = z .nest; simple = z .simple })
 
 -- ---- create
 
-pub new-fits : (N : ℕ) (u : ℕ → ℕ) (generation caller name count attributes : ℕ) → generation < maxGeneration → 1 ≤ caller → caller ≤ N → 1 ≤ name
-    → name ≤ maxNumber
-    → count ≤ maxNumber → allowed attributes ≡ true → ((isBinary attributes or isSimple attributes) ≡ true → count ≤ 1)
-    → SlotFits N u (newSemaphore generation caller name count attributes)
+pub new-fits : (N : ℕ) (u : ℕ → ℕ) (generation caller name count attributes maximum : ℕ) → generation < maxGeneration → 1 ≤ caller → caller ≤ N → 1 ≤ name
+    → name ≤ maxNumber → allowed attributes ≡ true → 1 ≤ maximum → maximum ≤ classMaximum attributes → count ≤ maximum
+    → SlotFits N u (newSemaphore generation caller name count attributes maximum)
 unfolding newSemaphore
-new-fits N u generation caller name count attributes g first last named n c a most =
+new-fits N u generation caller name count attributes maximum g first last named n a least most within =
     record {
       generation = omega arith;
       live = omega arith;
       name = n;
-      count = c;
+      count = omega (arith, class-within attributes);
       nest = choose-cases (λ (n : ℕ). n ≤ maxNumber) (isBinary attributes and eqb count 0) 1 0 (λ b. omega arith) (λ b. omega arith);
       whenLive = λ m.
           record {
@@ -222,12 +202,17 @@ new-fits N u generation caller name count attributes g first last named n c a mo
             atZero = λ q. absurd (omega arith);
             owned = λ b. ⊎-elim (held b) (unheld b) (tested (eqb count 0));
             unowned = unowned;
+            maximum = record { least = least; most = most; count = within };
           };
       whenFree = λ e. never refl e;
     }
   where
     slot : Slot
-    slot = newSemaphore generation caller name count attributes
+    slot = newSemaphore generation caller name count attributes maximum
+
+    -- both binary classes have the maximum 1
+    few : (isBinary attributes or isSimple attributes) ≡ true → count ≤ 1
+    few e = let one : maximum ≤ 1 = subst (λ (n : ℕ). maximum ≤ n) (if-yes _ _ e) most in omega arith
 
     held : isBinary attributes ≡ true → eqb count 0 ≡ true → Unheld slot ⊎ Held N slot
     held b z =
@@ -240,9 +225,9 @@ new-fits N u generation caller name count attributes g first last named n c a mo
     unheld b z =
         let neither : (isBinary attributes and eqb count 0) ≡ false = if-yes _ _ b ∙ z in
         let some = eqb-false count 0 z in
-        inl (record { count = omega (arith, most (or-first _ _ b)); owner = if-no _ _ neither; nest = if-no _ _ neither })
+        inl (record { count = omega (arith, few (or-first _ _ b)); owner = if-no _ _ neither; nest = if-no _ _ neither })
 
     unowned : isBinary attributes ≡ false → Unowned slot
     unowned b =
         let neither : (isBinary attributes and eqb count 0) ≡ false = if-no _ _ b in
-        record { owner = if-no _ _ neither; nest = if-no _ _ neither; simple = λ m. most (or-second _ _ m) }
+        record { owner = if-no _ _ neither; nest = if-no _ _ neither; simple = λ m. few (or-second _ _ m) }

@@ -113,7 +113,7 @@ module _ (t : Tables) where
       live : isLive s ≡ true → SlotFits N u (tickedSlot t s)
       live l =
           let v = f .whenLive l in
-          counted-fits N u s f l _ _ _ (stillWaiting t (s .queue)) (f .count) (f .nest) (still-none 0 (s .queue) (v .entries))
+          counted-fits N u s f l _ _ _ (stillWaiting t (s .queue)) (v .maximum .count) (f .nest) (still-none 0 (s .queue) (v .entries))
           (λ b. still-ascending u 0 (s .queue) (v .ordered b))
           (λ h. v .atZero (omega (arith, still-length (s .queue))))
           (λ b. ⊎-elim (λ (z : Unheld s). inl (record { count = z .count; owner = z .owner; nest = z .nest }))
@@ -138,6 +138,7 @@ module _ (t : Tables) where
               count = z .count;
               owner = z .owner;
               nest = z .nest;
+              maximum = z .maximum;
               queue = omega
                   (arith, z .queue, still-length (s .queue));
             };

@@ -84,6 +84,9 @@ module _ (t : Tables) (f : Facts t) where
         unowned = λ b.
             let u = s .unowned b in
             both-and (eq-eqb _ _ (u .owner)) (both-and (eq-eqb _ _ (u .nest)) (then-when _ _ (λ c. le-leb _ _ (u .simple c))));
+        maximum =
+            let m = s .maximum in
+            both-and (both-and (le-leb _ _ (m .least)) (le-leb _ _ (m .most))) (le-leb _ _ (m .count));
       }
 
   slot : (j : ℕ) → SlotAgrees t (suc j) (nthSlot t j)
@@ -96,7 +99,7 @@ module _ (t : Tables) (f : Facts t) where
         whenLive = live j;
         whenFree = λ l. let c = s .whenFree l in
             both-and (eq-eqb _ _ (c .name)) (both-and (eq-eqb _ _ (c .attributes)) (both-and (eq-eqb _ _ (c .count))
-            (both-and (eq-eqb _ _ (c .owner)) (both-and (eq-eqb _ _ (c .nest)) (eq-eqb _ _ (c .queue))))));
+            (both-and (eq-eqb _ _ (c .owner)) (both-and (eq-eqb _ _ (c .nest)) (both-and (eq-eqb _ _ (c .maximum)) (eq-eqb _ _ (c .queue)))))));
       }
 
   -- what stands in the sequence is ready

@@ -8,8 +8,8 @@ use Rattle.semaphore.proofs.TakeGive.{stands-as, new-unowned, new-owned
 use Rattle.semaphore.proofs.created.Statement.{statement}
 use Rattle.semaphore.proofs.created.Tie as tie
 
-add-t7 : tie.Need-add-t7
-add-t7 c = search needs
+add-t8 : tie.Need-add-t8
+add-t8 c = search needs
 
 is-binary-requires : tie.Need-is-binary-requires
 is-binary-requires c κs = search needs
@@ -19,14 +19,14 @@ unfolding fit
 returns c =
     let call = c .before .before .args in
     let other = sym (c .before .is-binary .ensures) ∙ not-true _ (c .if1 .taken) in
-    new-unowned (call .generation) (call .caller) (call .name) (call .count) (call .attributes) (if-no _ _ other)
+    new-unowned (call .generation) (call .caller) (call .name) (call .count) (call .attributes) (call .maximum) (if-no _ _ other)
 
 returns-2 : tie.Need-returns-2
 unfolding fit
 returns-2 c =
     let call = c .before .before .before .args in
     let binary = sym (c .before .before .is-binary .ensures) ∙ not-false _ (c .before .if1 .left) in
-    new-unowned (call .generation) (call .caller) (call .name) (call .count) (call .attributes) (if-yes _ _ binary ∙ ne-eqb _ _ (c .if2 .taken))
+    new-unowned (call .generation) (call .caller) (call .name) (call .count) (call .attributes) (call .maximum) (if-yes _ _ binary ∙ ne-eqb _ _ (c .if2 .taken))
 
 with-count-requires : tie.Need-with-count-requires
 with-count-requires c κs = search needs
@@ -37,8 +37,9 @@ returns-3 c =
     let call = c .before .before .before .before .args in
     let binary = sym (c .before .before .before .is-binary .ensures) ∙ not-false _ (c .before .before .if1 .left) in
     stands-as (c .with-count .ensures)
-    (new-owned (call .generation) (call .caller) (call .name) (call .count) (call .attributes) (both-and binary (eq-eqb _ _ (c .before .if2 .left))))
+    (new-owned (call .generation) (call .caller) (call .name) (call .count) (call .attributes) (call .maximum)
+    (both-and binary (eq-eqb _ _ (c .before .if2 .left))))
 
 pub created-spec : {M : Type 1} → statement M
 created-spec =
-    tie.close (tie.spec add-t7 is-binary-requires returns returns-2 with-count-requires returns-3)
+    tie.close (tie.spec add-t8 is-binary-requires returns returns-2 with-count-requires returns-3)

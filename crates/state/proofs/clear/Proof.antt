@@ -10,10 +10,10 @@ use Rattle.state.proofs.clear.Statement.{statement}
 use Rattle.state.proofs.clear.Tie as tie
 
 abbrev Inv-loop : tie.InvT-loop
-Inv-loop m₀ k₀ m k = (k ≤ 10892) × (length m ≡ 10892) × Filled (λ j. 0) 0 m k
+Inv-loop m₀ k₀ m k = (k ≤ 11148) × (length m ≡ 11148) × Filled (λ j. 0) 0 m k
 
 abbrev μ-loop : tie.MeasureT-loop
-μ-loop m₀ k₀ m k = 10892 - k
+μ-loop m₀ k₀ m k = 11148 - k
 
 loop-holds : tie.Need-loop-holds Inv-loop μ-loop
 loop-holds c = (omega arith, omega arith, filled-none (λ j. 0) 0 (c .args .m .now))

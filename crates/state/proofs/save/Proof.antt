@@ -17,10 +17,10 @@ use Rattle.calls.specs.Agreeing.{Agreeing}
 use Rattle.calls.proofs.Agreeing.{sized}
 use Rattle.manager.proofs.Tested.{tested}
 use Rattle.state.specs.declared.contents.Counts.{Counts}
-use Rattle.state.specs.File.{isStarted, stateFile}
+use Rattle.state.specs.File.{isStarted, secondEdition, stateFile}
 use Rattle.state.specs.Reading.{fileEnd}
 use Rattle.state.specs.Shape.{Small, countsOf}
-use Rattle.state.proofs.File.{length-stateFile}
+use Rattle.state.proofs.File.{length-file}
 use Rattle.state.proofs.Lengths.{counts-small, file-longest}
 use Rattle.state.proofs.Entry.{save-disagreeing, save-unstarted, save-short, save-done}
 use Rattle.state.proofs.save.Statement.{statement}
@@ -51,7 +51,7 @@ counted : (c : tie.After-file-end)
     → 4 * c .file-end .result ≡ length (stateFile (modelOf (c .before .before .before .before .before .before .before .before .args .m .now)))
 counted c =
     let t = modelOf (c .before .before .before .before .before .before .before .before .args .m .now) in
-    ap (λ (n : ℕ). 4 * n) (c .file-end .ensures ∙ ap (λ (k : Counts). fileEnd k) (c .before .counts-of .ensures)) ∙ sym (length-stateFile t)
+    ap (λ (n : ℕ). 4 * n) (c .file-end .ensures ∙ ap (λ (k : Counts). fileEnd k) (c .before .counts-of .ensures)) ∙ sym (length-file secondEdition t)
 
 is-agreeing-requires : tie.Need-is-agreeing-requires
 is-agreeing-requires c κs = search needs
@@ -82,7 +82,7 @@ file-end-requires : tie.Need-file-end-requires
 file-end-requires c κs = small c
 
 mul-length : tie.Need-mul-length
-mul-length c = search needs
+mul-length c = omega (arith, counted c, file-longest _ (agreeing (c .before .before .before .before) .agrees))
 
 answer-requires-2 : tie.Need-answer-requires-2
 answer-requires-2 c κs = sized (agreeing (c .before .before .before .before .before))

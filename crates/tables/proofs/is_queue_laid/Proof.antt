@@ -34,9 +34,9 @@ returns : tie.Need-returns
 returns c =
     let count = c .before .before .slot-waiters in
     let o = c .before .before .before .before .args in
-    let none : slotPlace (o .i) + 8 ≡ slotPlace (o .i) + 8 + count .result = omega arith in
+    let none : slotPlace (o .i) + 9 ≡ slotPlace (o .i) + 9 + count .result = omega arith in
     queue-within (o .m .now) (o .i) (count .result) (count .ensures) _ (omega arith)
-    (c .is-blank .ensures ∙ ap (λ (n : ℕ). blank (o .m .now) n (slotPlace (o .i) + 40)) none)
+    (c .is-blank .ensures ∙ ap (λ (n : ℕ). blank (o .m .now) n (slotPlace (o .i) + 41)) none)
 
 returns-2 : tie.Need-returns-2
 returns-2 c =

@@ -29,7 +29,7 @@ slice-aggregate-set-words-2 c = search needs
 -- an array that is passed by value has all its places
 queue-places : (c : tie.Start) → length (c .args .s .queue) ≡ 32
 queue-places c =
-    sym (length-map (c .args .s .queue) (λ (v : ℕ). v)) ∙ c .good .1 .1 .0 .1 .1 .1 .1 .1 .1 .1 .1 .1 .1 .0 .1 .0 .1
+    sym (length-map (c .args .s .queue) (λ (v : ℕ). v)) ∙ c .good .1 .1 .0 .1 .1 .1 .1 .1 .1 .1 .1 .1 .1 .1 .0 .1 .0 .1
 
 set-words-requires-2 : tie.Need-set-words-requires-2
 set-words-requires-2 c κs =
@@ -42,7 +42,7 @@ returns : tie.Need-returns
 returns c =
     let row = c .before .before .before .before .before .before .before .before in
     let first = row .before .before .before .before .args in
-    slot-stored (first .m .now) (row .set-words .last .0) _ (130 + 40 * first .i) (first .s) (row .set-words .ensures)
+    slot-stored (first .m .now) (row .set-words .last .0) _ (130 + 41 * first .i) (first .s) (row .set-words .ensures)
     (c .before .before .set-words2 .ensures)
 
 pub store-slot-spec : {M : Type 1} → statement M

@@ -24,7 +24,8 @@ returns : tie.Need-returns
 returns c =
     let s = c .before .before .before .before in
     let a = s .args in
-    refuses (s .pre) _ (create-refused (modelOf (a .m .now)) (a .caller) (a .name) (a .count) (a .attributes) _ (c .before .create-refusal .ensures)
+    refuses (s .pre) _
+    (create-refused (modelOf (a .m .now)) (a .caller) (a .name) (a .count) (a .attributes) (a .maximum) _ (c .before .create-refusal .ensures)
     (c .if1 .taken)) _ refl refl
 
 open-slot-requires : tie.Need-open-slot-requires
@@ -37,7 +38,7 @@ start c = c .before .before .before .before .before .before
 hit : (c : tie.After-open-slot) → Hit isOpen (modelOf (start c .args .m .now) .slots) 0 (c .open-slot .result)
 hit c =
     let a = start c .args in
-    opened (modelOf (a .m .now)) (a .caller) (a .name) (a .count) (a .attributes) _ (c .before .before .before .create-refusal .ensures)
+    opened (modelOf (a .m .now)) (a .caller) (a .name) (a .count) (a .attributes) (a .maximum) _ (c .before .before .before .create-refusal .ensures)
     (c .before .before .if1 .left) _ (c .open-slot .ensures)
 
 found : (c : tie.After-open-slot) → FoundSlot (start c .args .m .now) (c .open-slot .result)
@@ -71,14 +72,14 @@ created-requires c κs = young c
 put-slot-requires : tie.Need-put-slot-requires
 put-slot-requires c κs = let o = c .before .before .before .before in (sized (start o .pre) .long, found o .low, found o .most)
 
-add-t17 : tie.Need-add-t17
-add-t17 c = omega (arith, young (c .before .before .before .before .before))
+add-t18 : tie.Need-add-t18
+add-t18 c = omega (arith, young (c .before .before .before .before .before))
 
-mul-t22 : tie.Need-mul-t22
-mul-t22 c = omega (arith, young (c .before .before .before .before .before))
+mul-t23 : tie.Need-mul-t23
+mul-t23 c = omega (arith, young (c .before .before .before .before .before))
 
-add-t23 : tie.Need-add-t23
-add-t23 c = omega (arith, young (c .before .before .before .before .before), found (c .before .before .before .before .before .before .before) .most)
+add-t24 : tie.Need-add-t24
+add-t24 c = omega (arith, young (c .before .before .before .before .before), found (c .before .before .before .before .before .before .before) .most)
 
 same-length-2 : tie.Need-same-length-2
 same-length-2 c = search needs
@@ -90,7 +91,7 @@ returns-2 c =
     let a = start o .args in
     let t = modelOf (a .m .now) in
     does 0 _ _
-    (create-done t (a .caller) (a .name) (a .count) (a .attributes) _ (o .before .before .before .create-refusal .ensures)
+    (create-done t (a .caller) (a .name) (a .count) (a .attributes) (a .maximum) _ (o .before .before .before .create-refusal .ensures)
     (o .before .before .if1 .left) _ _ (o .open-slot .ensures) (generation g))
     _ refl refl
     (c .before .before .put-slot .ensures t _ (start o .pre .same) (c .before .before .before .before .created .ensures) (found o .high))
@@ -108,8 +109,8 @@ create-spec =
     slot-generation-requires
     created-requires
     put-slot-requires
-    add-t17
-    mul-t22
-    add-t23
+    add-t18
+    mul-t23
+    add-t24
     same-length-2
     returns-2)

@@ -44,8 +44,8 @@ returns-3 c =
     (failing _ (ne-eqb _ _ (c .before .before .if2 .left))
     (failing _ (sym (c .before .is-allowed .ensures) ∙ not-true _ (c .if3 .taken)) refl))
 
-is-count-over-requires : tie.Need-is-count-over-requires
-is-count-over-requires c κs = search needs
+is-count-allowed-requires : tie.Need-is-count-allowed-requires
+is-count-allowed-requires c κs = search needs
 
 returns-4 : tie.Need-returns-4
 unfolding createRefusal
@@ -56,7 +56,7 @@ returns-4 c =
     passed (modelOf (first .m .now)) (first .caller) (asked .task-only .ensures) (named .before .before .if1 .left)
     (failing _ (ne-eqb _ _ (named .before .if2 .left))
     (holding _ (sym (named .is-allowed .ensures) ∙ not-false _ (c .before .before .if3 .left))
-    (holding _ (sym (c .before .is-count-over .ensures) ∙ c .if4 .taken) refl)))
+    (failing _ (sym (c .before .is-count-allowed .ensures) ∙ not-true _ (c .if4 .taken)) refl)))
 
 open-slot-requires : tie.Need-open-slot-requires
 open-slot-requires c κs = search needs
@@ -71,7 +71,7 @@ returns-5 c =
     passed (modelOf (first .m .now)) (first .caller) (asked .task-only .ensures) (named .before .before .if1 .left)
     (failing _ (ne-eqb _ _ (named .before .if2 .left))
     (holding _ (sym (named .is-allowed .ensures) ∙ not-false _ (counted .before .if3 .left))
-    (failing _ (sym (counted .is-count-over .ensures) ∙ c .before .before .if4 .left)
+    (holding _ (sym (counted .is-count-allowed .ensures) ∙ not-false _ (c .before .before .if4 .left))
     (holding _ (eq-eqb _ _ (sym (c .before .open-slot .ensures) ∙ c .if5 .taken)) refl))))
 
 returns-6 : tie.Need-returns-6
@@ -84,7 +84,7 @@ returns-6 c =
     passed (modelOf (first .m .now)) (first .caller) (asked .task-only .ensures) (named .before .before .if1 .left)
     (failing _ (ne-eqb _ _ (named .before .if2 .left))
     (holding _ (sym (named .is-allowed .ensures) ∙ not-false _ (counted .before .if3 .left))
-    (failing _ (sym (counted .is-count-over .ensures) ∙ c .before .before .if4 .left)
+    (holding _ (sym (counted .is-count-allowed .ensures) ∙ not-false _ (c .before .before .if4 .left))
     (failing _ (ne-eqb _ _ (λ z. c .if5 .left (c .before .open-slot .ensures ∙ z))) refl))))
 
 pub create-refusal-spec : {M : Type 1} → statement M
@@ -96,7 +96,7 @@ create-refusal-spec =
     returns-2
     is-allowed-requires
     returns-3
-    is-count-over-requires
+    is-count-allowed-requires
     returns-4
     open-slot-requires
     returns-5

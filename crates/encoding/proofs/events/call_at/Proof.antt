@@ -23,14 +23,18 @@ number-at-requires-4 c κs = search needs
 number-at-requires-5 : tie.Need-number-at-requires-5
 number-at-requires-5 c κs = search needs
 
+number-at-requires-6 : tie.Need-number-at-requires-6
+number-at-requires-6 c κs = search needs
+
 call-of-requires : tie.Need-call-of-requires
 call-of-requires c κs = search needs
 
 returns : tie.Need-returns
 returns c =
     c .call-of .ensures
-    ∙ (λ i. callOf (c .before .before .before .before .before .number-at .ensures i) (c .before .before .before .before .number-at2 .ensures i) (c .before
-    .before .before .number-at3 .ensures i) (c .before .before .number-at4 .ensures i) (c .before .number-at5 .ensures i))
+    ∙ (λ i. callOf (c .before .before .before .before .before .before .number-at .ensures i) (c .before .before .before .before .before .number-at2 .ensures i)
+    (c .before .before .before .before .number-at3 .ensures i) (c .before .before .before .number-at4 .ensures i) (c .before .before .number-at5 .ensures i)
+    (c .before .number-at6 .ensures i))
 
 pub call-at-spec : {M : Type 1} → statement M
 call-at-spec =
@@ -41,5 +45,6 @@ call-at-spec =
     number-at-requires-3
     number-at-requires-4
     number-at-requires-5
+    number-at-requires-6
     call-of-requires
     returns)

@@ -51,18 +51,13 @@ returns-2 c =
     gave (pass-handed (slotFrom s) some _ first other)
     (stands-as (c .before .before .with-queue .ensures) (stands-left s p _ (c .before .before .before .before .advanced .ensures)))
 
-maximum-requires : tie.Need-maximum-requires
-maximum-requires c κs = search needs
-
 returns-3 : tie.Need-returns-3
 returns-3 c =
-    let start = c .before .before .before .before .before in
+    let start = c .before .before .before .before in
     let s = start .args .self in
     let p = start .pre .0 in
     let none : length (slotFrom s .queue) < 1 = omega (arith, length-queue s p) in
-    let most = c .if3 .taken ∙ c .before .before .maximum .ensures in
-    gave (pass-full (slotFrom s) none most)
-    (stands-itself p)
+    gave (pass-full (slotFrom s) none (c .if3 .taken)) (stands-itself p)
 
 add-with-count : tie.Need-add-with-count
 add-with-count c = search needs
@@ -72,11 +67,11 @@ with-count-requires-2 c κs = search needs
 
 returns-4 : tie.Need-returns-4
 returns-4 c =
-    let start = c .before .before .before .before .before .before .before in
+    let start = c .before .before .before .before .before .before in
     let s = start .args .self in
     let p = start .pre .0 in
     let none : length (slotFrom s .queue) < 1 = omega (arith, length-queue s p) in
-    gave (pass-raised (slotFrom s) none (λ e. c .before .before .if3 .left (e ∙ sym (c .before .before .before .before .maximum .ensures))))
+    gave (pass-raised (slotFrom s) none (c .before .before .if3 .left))
     (stands-as (c .with-count2 .ensures) (stands-count (stands-itself p) _ _ _))
 
 pub passed-on-spec : {M : Type 1} → statement M
@@ -90,7 +85,6 @@ passed-on-spec =
     with-count-requires
     returns
     returns-2
-    maximum-requires
     returns-3
     add-with-count
     with-count-requires-2

@@ -14,7 +14,7 @@ use Rattle.shown.proofs.semaphores.put_holders.Tie as tie
 within : (c : tie.Start) → c .args .s .waiters ≤ length (c .args .s .queue)
 within c =
     let places : length (c .args .s .queue) ≡ 32 =
-    sym (length-map (c .args .s .queue) (λ (v : ℕ). v)) ∙ c .good .1 .1 .0 .1 .1 .1 .1 .1 .1 .1 .1 .1 .1 .0 .1 .0 .1 in
+    sym (length-map (c .args .s .queue) (λ (v : ℕ). v)) ∙ c .good .1 .1 .0 .1 .1 .1 .1 .1 .1 .1 .1 .1 .1 .1 .0 .1 .0 .1 in
     omega (arith, c .pre)
 
 put-owner-requires : tie.Need-put-owner-requires

@@ -32,18 +32,23 @@ put-order-requires c κs = search needs
 put-number-requires : tie.Need-put-number-requires
 put-number-requires c κs = search needs
 
+put-maximum-requires : tie.Need-put-maximum-requires
+put-maximum-requires c κs = search needs
+
 same-length : tie.Need-same-length
 same-length c = search needs
 
 returns : tie.Need-returns
 unfolding kindText
 returns c =
-    let order = c .before .before .before .before .before .before in
+    let count = c .before .before .before .before .before .before in
+    let order = count .before .before .before .before in
     let class = order .before .before .before .before in
     let name = class .before .before .before .before in
     name .before .before .before .before .before .put-numbered .ensures then name .put-numbered2 .ensures then class .put-class .ensures
     then order .put-order .ensures
-    then c .before .before .put-number .ensures
+    then count .put-number .ensures
+    then c .before .before .put-maximum .ensures
 
 pub put-kind-spec : {M : Type 1} → statement M
 put-kind-spec =
@@ -58,5 +63,6 @@ put-kind-spec =
     put-class-requires
     put-order-requires
     put-number-requires
+    put-maximum-requires
     same-length
     returns)

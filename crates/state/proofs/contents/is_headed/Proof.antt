@@ -3,6 +3,7 @@ use borrow.Author.Needs.{needs}
 use mathlib.Core.Path.{sym, _∙_}
 use native.Mathlib.Omega.{arith}
 use borrow.Author.Tests.{not-true, not-false}
+use Rattle.state.proofs.Editions.{numbers-few}
 use Rattle.state.proofs.Shape.{too-short, small-of, not-small, wrong-length, contents-tested}
 use Rattle.state.proofs.contents.is_headed.Statement.{statement}
 use Rattle.state.proofs.contents.is_headed.Tie as tie
@@ -26,7 +27,14 @@ file-end-requires : tie.Need-file-end-requires
 file-end-requires c κs = small-of _ (sym (c .before .is-small .ensures) ∙ not-false _ (c .if2 .left))
 
 mul-if3 : tie.Need-mul-if3
-mul-if3 c = search needs
+mul-if3 c =
+    let counts = c .before .before .before .counts-in .result in
+    omega (
+      arith,
+      small-of counts (sym (c .before .before .is-small .ensures) ∙ not-false _ (c .before .if2 .left)),
+      c .file-end .ensures,
+      numbers-few (counts .edition) (counts .slots),
+    )
 
 returns-3 : tie.Need-returns-3
 returns-3 c =

@@ -22,8 +22,8 @@ returns c =
     let head = queue .before .before .before .before in
     let read = head .before .before in
     let first = read .before .before .before .args in
-    slot-filled (first .m .now) _ _ (first .i) (first .file .now) (first .at) (first .queue) (first .n) _ (read .head-in .ensures) (head .store-head .ensures)
-    (queue .fill-queue .ensures)
+    slot-filled (first .m .now) _ _ (first .i) (first .file .now) (first .edition) (first .at) (first .queue) (first .n) _ (read .head-in .ensures)
+    (head .store-head .ensures) (queue .fill-queue .ensures)
 
 pub fill-slot-spec : {M : Type 1} → statement M
 fill-slot-spec =

@@ -1,19 +1,20 @@
 -- `state::writing::write_slots` meets its contract. The invariant: the rows of the slots passed are written.
 use borrow.Author.Needs.{needs}
-use mathlib.Core.Path.{_≡_}
+use mathlib.Core.Path.{_≡_, ap}
 use Prim.Native.Nat.{_≤_, _+_, _*_, _-_}
 use native.Mathlib.Omega.{arith}
-use lib.ListN.{length}
+use lib.ListN.{length, getD}
 use Rattle.rules.specs.Machine.{freeSlot}
 use Rattle.tables.specs.Layout.{modelOf}
 use Rattle.lookup.proofs.Model.{length-slots}
-use Rattle.state.specs.File.{numbersRow}
-use Rattle.state.proofs.Written.{RowsWritten, rows-none, row-within, rows-more, rows-all, numbers-read}
+use Rattle.state.specs.File.{secondEdition, numbersRow}
+use Rattle.state.proofs.Written.{RowsWritten, rows-none, row-within, rows-more, rows-all, row-written, numbers-read}
 use Rattle.state.proofs.writing.write_slots.Statement.{statement}
 use Rattle.state.proofs.writing.write_slots.Tie as tie
 
 abbrev Inv-loop : tie.InvT-loop
-Inv-loop m file₀ at slots i₀ file i = (i ≤ slots) × (length file ≡ length file₀) × RowsWritten numbersRow (modelOf m .slots) at file₀ file i (at + 7 * i)
+Inv-loop m file₀ at slots i₀ file i =
+    (i ≤ slots) × (length file ≡ length file₀) × RowsWritten (numbersRow secondEdition) (modelOf m .slots) at file₀ file i (at + 8 * i)
 
 abbrev μ-loop : tie.MeasureT-loop
 μ-loop m file₀ at slots i₀ file i = slots - i
@@ -27,7 +28,8 @@ cast-slots c = search needs
 loop-holds : tie.Need-loop-holds Inv-loop μ-loop
 loop-holds c =
     let first = c .before .before .before .args in
-    (omega arith, omega arith, rows-none numbersRow (modelOf (first .m .now) .slots) (freeSlot 0) (first .at) (first .file .now) _ (omega arith))
+    let slots = modelOf (first .m .now) .slots in
+    (omega arith, omega arith, rows-none (numbersRow secondEdition) slots (freeSlot 0) (first .at) (first .file .now) _ (omega arith))
 
 load-head-requires : tie.Need-load-head-requires Inv-loop μ-loop
 load-head-requires c κs = search needs
@@ -48,8 +50,9 @@ set-words-requires c κs =
     let m = first .m .now in
     omega (
       arith,
-      row-within numbersRow (modelOf m .slots) (freeSlot 0) (first .at) (first .file .now) (turn .loop .file) (turn .loop .i) _
+      row-within (numbersRow secondEdition) (modelOf m .slots) (freeSlot 0) (first .at) (first .file .now) (turn .loop .file) (turn .loop .i) _
           (omega (arith, length-slots m, turn .before .slot-count .ensures)) (turn .loop .inv .2),
+      ap length (row-written (getD (modelOf m .slots) (turn .loop .i) (freeSlot 0))),
     )
 
 add-i : tie.Need-add-i Inv-loop μ-loop
@@ -66,7 +69,7 @@ loop-again c =
     let m = first .m .now in (
       omega arith,
       omega (arith, c .before .before .set-words .kept),
-      rows-more numbersRow (modelOf m .slots) (freeSlot 0) (first .at) (first .file .now) (turn .loop .file) (turn .loop .i) _
+      rows-more (numbersRow secondEdition) (modelOf m .slots) (freeSlot 0) (first .at) (first .file .now) (turn .loop .file) (turn .loop .i) _
           (omega (arith, length-slots m, turn .before .slot-count .ensures)) (turn .loop .inv .2) _ _ _
           (numbers-read m (turn .loop .i) (load .load-head .result) (omega (arith, turn .before .slot-count .ensures)) (load .load-head .ensures))
           (omega arith) (c .before .before .set-words .ensures),
@@ -80,7 +83,7 @@ returns c =
     let turn = c .before in
     let first = turn .before .before .before .before .args in
     let m = first .m .now in
-    rows-all numbersRow (modelOf m .slots) (freeSlot 0) (first .at) (first .file .now) _ (turn .loop .i) _
+    rows-all (numbersRow secondEdition) (modelOf m .slots) (freeSlot 0) (first .at) (first .file .now) _ (turn .loop .i) _
     (omega (arith, length-slots m, turn .before .slot-count .ensures)) (turn .loop .inv .2)
 
 pub write-slots-spec : {M : Type 1} → statement M

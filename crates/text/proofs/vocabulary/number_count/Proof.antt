@@ -20,7 +20,7 @@ returns c = refl
 
 returns-2 : tie.Need-returns-2
 unfolding takes
-returns-2 c = sym (List·getD-eq-default (0 ∷ 1 ∷ 1 ∷ 4 ∷ 1 ∷ 2 ∷ 4 ∷ 2 ∷ 2 ∷ 0 ∷ 0 ∷ 1 ∷ 3 ∷ 2 ∷ 2 ∷ 2 ∷ 2 ∷ 2 ∷ 3 ∷ 0 ∷ 0 ∷ []) 0 {n = c .before .args
+returns-2 c = sym (List·getD-eq-default (0 ∷ 1 ∷ 1 ∷ 5 ∷ 1 ∷ 2 ∷ 4 ∷ 2 ∷ 2 ∷ 0 ∷ 0 ∷ 1 ∷ 3 ∷ 2 ∷ 2 ∷ 2 ∷ 2 ∷ 2 ∷ 3 ∷ 0 ∷ 0 ∷ []) 0 {n = c .before .args
     .word} (omega arith))
 
 pub number-count-spec : {M : Type 1} → statement M

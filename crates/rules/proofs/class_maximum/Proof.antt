@@ -1,9 +1,9 @@
--- `semaphore::maximum` meets its contract: each return is a case of the definition.
+-- `rules::class_maximum` meets its contract: each return is a case of the definition.
 use mathlib.Core.Path.{sym, _∙_}
 use borrow.Author.Needs.{needs}
 use Rattle.laws.proofs.Choose.{if-yes, if-no, or-first, or-second}
-use Rattle.semaphore.proofs.maximum.Statement.{statement}
-use Rattle.semaphore.proofs.maximum.Tie as tie
+use Rattle.rules.proofs.class_maximum.Statement.{statement}
+use Rattle.rules.proofs.class_maximum.Tie as tie
 
 is-binary-requires : tie.Need-is-binary-requires
 is-binary-requires c κs = search needs
@@ -25,5 +25,5 @@ returns-3 c =
     ∙ sym (c .before .is-simple .ensures)
     ∙ c .if2 .left))
 
-pub maximum-spec : {M : Type 1} → statement M
-maximum-spec = tie.close (tie.spec is-binary-requires returns is-simple-requires returns-2 returns-3)
+pub class-maximum-spec : {M : Type 1} → statement M
+class-maximum-spec = tie.close (tie.spec is-binary-requires returns is-simple-requires returns-2 returns-3)

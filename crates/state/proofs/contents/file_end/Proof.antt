@@ -1,0 +1,23 @@
+-- `state::contents::file_end` meets its contract: the numbers of the slots are at most 8 a record, so that the sum fits.
+use borrow.Author.Needs.{needs}
+use native.Mathlib.Omega.{arith}
+use Rattle.state.proofs.Editions.{numbers-few}
+use Rattle.state.proofs.contents.file_end.Statement.{statement}
+use Rattle.state.proofs.contents.file_end.Tie as tie
+
+ready-start-requires : tie.Need-ready-start-requires
+ready-start-requires c κs = search needs
+
+cast-result : tie.Need-cast-result
+cast-result c = search needs
+
+add-result : tie.Need-add-result
+add-result c =
+    let counts = c .before .before .args .c in
+    omega (arith, numbers-few (counts .edition) (counts .slots))
+
+returns : tie.Need-returns
+returns c = search needs
+
+pub file-end-spec : {M : Type 1} → statement M
+file-end-spec = tie.close (tie.spec ready-start-requires cast-result add-result returns)
