@@ -54,7 +54,7 @@ build/mast-state: FORCE
 state: build/mast-state
 	@bash tools/show_state
 
-# The static library for C, from the proved crate capi; with TARGET=name, for a processor of tools/targets/table.txt.
+# The static library for C, from the proved crates of OBJECTS; with TARGET=name, for a processor of tools/targets/table.txt.
 ifeq ($(origin TARGET),command line)
 lib:
 	@bash tools/targets/build "$(TARGET)"
@@ -62,8 +62,8 @@ else
 lib: build/libmastclover.a
 endif
 
-# An object for the calls, one for mast_run and one for the state file, so that a program links what it uses.
-OBJECTS := capi capi_run capi_state
+# An object for the calls, one each for mast_run, the state file and the ITRON calls, so that a program links what it uses.
+OBJECTS := capi capi_run capi_state capi_itron
 build/libmastclover.a: FORCE
 	@mkdir -p build/members
 	@bash tools/archive $(OBJECTS)
@@ -72,11 +72,12 @@ build/libmastclover.a: FORCE
 
 FORCE:
 
-# The C programs to start from, run: first.c, then tag.c.
-example: lib build/first build/tag
-	@echo "examples/first.c" && build/first && echo && echo "examples/tag.c" && build/tag
+# The C programs to start from, run: first.c, then tag.c, and scanner.c for the ITRON calls.
+EXAMPLES := first tag scanner
+example: lib $(EXAMPLES:%=build/%)
+	@echo "examples/first.c" && build/first && echo && echo "examples/tag.c" && build/tag && echo && echo "examples/scanner.c" && build/scanner
 
-build/first build/tag: build/%: examples/%.c include/mastclover.h build/libmastclover.a
+$(EXAMPLES:%=build/%): build/%: examples/%.c include/mastclover.h include/mastclover_itron.h build/libmastclover.a
 	@$(CC) -std=c99 -Wall -Wextra -pedantic -Werror -O2 -Iinclude $< build/libmastclover.a -o $@
 
 # The independent implementation, linked with the library.
@@ -87,10 +88,12 @@ SECONDS ?= 60
 SEED ?= 1
 RUNS ?= 100000
 FILES ?= 100
+ROUNDS ?= 1000
 fuzz: compare
 	compare/target/release/compare --seconds $(SECONDS) --seed $(SEED)
 	compare/target/release/compare_runs $(RUNS) $(SEED)
 	compare/target/release/compare_state $(FILES) $(SEED)
+	compare/target/release/compare_itron $(ROUNDS) $(SEED)
 
 # The static library over task records that a caller keeps itself, from the proved crate records, and such a caller.
 .PHONY: records
@@ -107,6 +110,7 @@ bench: compare build/mast-session
 	compare/target/release/bench
 	@$(CC) -std=gnu99 -Wall -Wextra -O2 -Iinclude tools/bench_agreement.c build/libmastclover.a -o build/bench_agreement
 	python3 tools/bench_session.py
+	@$(CC) -std=gnu99 -Wall -Wextra -O2 -Iinclude tools/bench_itron.c build/libmastclover.a -o build/bench_itron && build/bench_itron
 
 # The most stack that each C function takes, measured.
 stack: lib

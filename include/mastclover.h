@@ -15,6 +15,7 @@
  *
  * Link with libmastclover.a: `make lib` builds it for x86-64 Linux, `make lib TARGET=cortex-m4` (or
  * another line of tools/targets/table.txt) for a board; docs/TARGETS.md has the code and stack.
+ * mastclover_itron.h has the semaphore calls of ITRON 3.0 over the same tables.
  *
  * Tasks are numbered 1 to N in the order of their priorities at start, N at most 32. Priority 1 is
  * the most urgent, 255 the least. A task is ready, or waits on one semaphore.
@@ -223,7 +224,8 @@ mast_answer mast_ident_looked(const uint8_t *tables, size_t length, mast_name na
 
 /*
  * Deletes a semaphore. All its waiters become ready with answer MAST_OBJECT_WAS_DELETED, in the order
- * of the queue. Not from an interrupt.
+ * of the queue. Not from an interrupt. For tables with a list of mastclover_itron.h there is
+ * mast_delete_mapped.
  *
  *   MAST_INTERNAL_ERROR    the tables are damaged or have the wrong length
  *   MAST_CALLED_FROM_ISR   caller 0
@@ -354,7 +356,7 @@ mast_answer mast_load(uint8_t *tables, size_t length, const uint8_t *file, size_
  *     MAST_EVENT_START    slots, count, then as many priorities
  *     MAST_EVENT_CREATE   caller, name, count, attributes, maximum
  *     MAST_EVENT_IDENT    name
- *     MAST_EVENT_DELETE   caller, id
+ *     MAST_EVENT_DELETE   caller, id (for tables with a list: see mastclover_itron.h)
  *     MAST_EVENT_OBTAIN   caller, id, options, timeout
  *     MAST_EVENT_RELEASE  caller, id
  *     MAST_EVENT_FLUSH    caller, id

@@ -10,7 +10,7 @@ import sys
 
 from rt_source import functions
 
-ENTRIES = {"manager", "capi", "session", "state"}
+ENTRIES = {"manager", "capi", "session", "state", "itron_calls"}
 # Words that name neither a definition nor an argument.
 EMPTY = {"true", "false", "refl", "tt", "λ"}
 

@@ -15,7 +15,8 @@ from rt_source import functions, uncommented
 
 top = pathlib.Path(__file__).resolve().parent.parent
 # Crates with entry points: each has an edit at least.
-ENTRIES = ("manager", "capi", "session", "playing", "mast_session", "runner", "capi_run", "mast_sections", "state", "capi_state", "mast_state")
+ENTRIES = ("manager", "capi", "session", "playing", "mast_session", "runner", "capi_run", "mast_sections", "state", "capi_state",
+           "mast_state", "itron_calls", "capi_itron")
 # Crates in which each public function has an edit: one inside it, or one whose first lines have its name in backticks.
 EACH_FUNCTION = ("manager",)
 

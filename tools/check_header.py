@@ -1,8 +1,9 @@
-"""Every constant of the C header is the number that the definitions have.
+"""Every constant of a C header is the number that the definitions have.
 
 check_header.py [HEADER]
-A macro MAST_.. that no definition has fails, and so does a number of crates/rules/specs/Numbers.antt without a macro,
-but for those in UNNAMED.
+HEADER is include/mastclover.h if none is named; by its name it is that one or mastclover_itron.h, of which the macros that it defines
+itself are looked at. A macro MAST_.. that no definition has fails, and so does a number of crates/rules/specs/Numbers.antt, or for
+mastclover_itron.h a code of crates/itron/specs/Codes.antt, without a macro, but for those in UNNAMED.
 """
 import pathlib
 import re
@@ -12,7 +13,7 @@ import tempfile
 
 top = pathlib.Path(__file__).resolve().parent.parent
 NUMBERS = top / "crates/rules/specs/Numbers.antt"
-SPECS = {name: (top / f"crates/{name}/specs") for name in ("rules", "tables", "sections", "encoding", "state")}
+SPECS = {name: (top / f"crates/{name}/specs") for name in ("rules", "tables", "sections", "encoding", "state", "mapping", "itron")}
 # No call takes a generation: this limit has no macro.
 UNNAMED = {"maxGeneration"}
 
@@ -46,11 +47,12 @@ def literals(name, before=""):
 # ---- the header
 
 def macros(header):
-    """Name to value of every MAST_ macro, as the compiler sees it."""
+    """Name to value of every MAST_ macro that the header itself defines, as the compiler sees it."""
     folder, name = header.parent, header.name
     said = subprocess.run(["gcc", "-dM", "-E", "-x", "c", header], stdout=subprocess.PIPE, text=True, check=True).stdout
-    names = re.findall(r"^#define (MAST_\w+)(?=[\s])", said, re.M)
-    shown = "".join(f'    printf("{n} %llu\\n", (unsigned long long)({n}));\n' for n in names)
+    own = set(re.findall(r"^#define (MAST_\w+)", header.read_text(), re.M))
+    names = [n for n in re.findall(r"^#define (MAST_\w+)(?=[\s])", said, re.M) if n in own]
+    shown = "".join(f'    printf("{n} %lld\\n", (long long)({n}));\n' for n in names)
     source = f'#include <stdio.h>\n#include "{name}"\nint main(void)\n{{\n{shown}    return 0;\n}}\n'
     with tempfile.TemporaryDirectory() as made:
         run = ["gcc", "-x", "c", "-I", folder, "-o", f"{made}/show", "-"]
@@ -109,6 +111,32 @@ def run():
     }
 
 
+def signed(text):
+    """The first number with a sign in a text of the definitions: `pos 0`, `minus 5`."""
+    found = re.search(r"\b(pos|minus) (\d+)", text) or sys.exit(f"no number with a sign in: {text}")
+    return int(found[2]) * (1 if found[1] == "pos" else -1)
+
+
+def itron():
+    """The numbers of mastclover_itron.h: a macro for each code that is defined."""
+    codes = re.findall(r"^e([A-Z]\w*) = (.*)", (SPECS["itron"] / "Codes.antt").read_text(), re.M)
+    tested, attributes, others = literals("attributesOf")
+    (other,) = set(literals("sematrAllowed", "eqb sematr ")) - {tested}
+    # the one whose Classic attributes are in the order of priorities
+    priority, fifo = (tested, other) if attributes in literals("byPriority") else (other, tested)
+    if {attributes, others} != set(literals("allowed")) - set(literals("isBinary")) - set(literals("isSimple")):
+        sys.exit("attributesOf gives others than those of counting semaphores")
+    return {
+        **{f"MAST_E_{name.upper()}": signed(text) for name, text in codes},
+        "MAST_ITRON_ENTRIES": number("listLength"),
+        "MAST_ITRON_MAXIMUM_COUNT": number("greatestCount"),
+        "MAST_TA_TFIFO": fifo,
+        "MAST_TA_TPRI": priority,
+        "MAST_TMO_FEVR": signed(body("waiSem")),
+        "MAST_TMO_POL": signed(body("preqSem")),
+    }
+
+
 def only(numbers):
     (number,) = numbers
     return number
@@ -125,7 +153,7 @@ def snake(name):
 
 def main():
     header = pathlib.Path(sys.argv[1] if len(sys.argv) > 1 else top / "include/mastclover.h").resolve()
-    given, wanted = macros(header), expected()
+    given, wanted = macros(header), itron() if header.name == "mastclover_itron.h" else expected()
     faults = [f"{name} is {value} and has no definition" for name, value in given.items() if name not in wanted]
     faults += [f"{name} is missing; it is {value}" for name, value in wanted.items() if name not in given]
     both = given.keys() & wanted.keys()

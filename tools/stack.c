@@ -3,10 +3,13 @@
 #include <string.h>
 #include <ucontext.h>
 
-#include "mastclover.h"
+#include "mastclover_itron.h"
 
 enum { STACK = 65536, PAINT = 0xA5 };
-enum function { START, CREATE, IDENT, IDENT_LOOKED, DELETE, OBTAIN, RELEASE, FLUSH, TICK, TASK, RUN, SAVE, LOAD, FUNCTIONS };
+enum function {
+    START, CREATE, IDENT, IDENT_LOOKED, DELETE, OBTAIN, RELEASE, FLUSH, TICK, TASK, RUN, SAVE, LOAD,
+    CRE_SEM, DEL_SEM, SIG_SEM, WAI_SEM, PREQ_SEM, TWAI_SEM, REF_SEM, DELETE_MAPPED, ITRON_CODE, FUNCTIONS
+};
 
 static unsigned char stack[STACK];
 static uint8_t tables[MAST_TABLES_LENGTH];
@@ -14,6 +17,7 @@ static ucontext_t here, there;
 
 static const char *const names[FUNCTIONS] = {
     "start", "create", "ident", "ident_looked", "delete", "obtain", "release", "flush", "tick", "task", "run", "save", "load",
+    "cre_sem", "del_sem", "sig_sem", "wai_sem", "preq_sem", "twai_sem", "ref_sem", "delete_mapped", "itron_code",
 };
 static size_t most[FUNCTIONS];
 static int ran;
@@ -47,6 +51,10 @@ static uint8_t file[MAST_STATE_MAXIMUM], other[MAST_TABLES_LENGTH];
 static mast_answer answered;
 static uint32_t looked;
 
+static uint32_t list[MAST_ITRON_ENTRIES];
+static int32_t code;
+#define LENT tables, sizeof tables, list, MAST_ITRON_ENTRIES
+
 static void call(void)
 {
     static const uint32_t priorities[] = { 1, 2, 3, 3, 2, 1, 9, 8 };
@@ -64,7 +72,24 @@ static void call(void)
     case RUN: run_sections(); break;
     case SAVE: answered = mast_save(tables, sizeof tables, file, sizeof file); break;
     case LOAD: answered = mast_load(other, sizeof other, file, a); break;
-    case FUNCTIONS: break;
+    default: break;
+    }
+}
+
+/* Apart from the others, since what this one keeps for itself counts too, and its calls have more numbers. */
+static void call_itron(void)
+{
+    switch (function) {
+    case CRE_SEM: code = mast_cre_sem(LENT, a, b, MAST_TA_TPRI, (int32_t)c, (int32_t)d).code; break;
+    case DEL_SEM: code = mast_del_sem(LENT, a, b).code; break;
+    case SIG_SEM: code = mast_sig_sem(LENT, a, b).code; break;
+    case WAI_SEM: code = mast_wai_sem(LENT, a, b).code; break;
+    case PREQ_SEM: code = mast_preq_sem(LENT, a, b).code; break;
+    case TWAI_SEM: code = mast_twai_sem(LENT, a, b, (int32_t)c).code; break;
+    case REF_SEM: code = mast_ref_sem(LENT, a, b).code; break;
+    case DELETE_MAPPED: code = (int32_t)mast_delete_mapped(LENT, a, b).status; break;
+    case ITRON_CODE: code = mast_itron_code(a); break;
+    default: break;
     }
 }
 
@@ -78,12 +103,64 @@ static void run(enum function which, uint32_t w, uint32_t x, uint32_t y, uint32_
     there.uc_stack.ss_sp = stack;
     there.uc_stack.ss_size = sizeof stack;
     there.uc_link = &here;
-    makecontext(&there, call, 0);
+    makecontext(&there, which < CRE_SEM ? call : call_itron, 0);
     swapcontext(&here, &there);
     while (left < sizeof stack && stack[left] == PAINT)
         left++;
     if (sizeof stack - left > most[which])
         most[which] = sizeof stack - left;
+}
+
+/* Each call with a semid above S, and a delete of no identifier; whether all were refused. */
+static int refuse_itron(void)
+{
+    enum function which;
+    for (which = CRE_SEM; which <= REF_SEM; which++) {
+        run(which, 1, 5, 1, 3);
+        if (code != MAST_E_ID)
+            return 0;
+    }
+    run(DELETE_MAPPED, 1, 5, 0, 0);
+    return code == MAST_INVALID_ID;
+}
+
+/* Semids 4 to 2 of eight tasks, with waiters of different urgency, each call done and refused; whether all went as it should. */
+static int run_itron(void)
+{
+    uint32_t semid, task;
+    memset(tables, 0, sizeof tables);
+    run(START, 4, 0, 0, 0);
+    for (semid = 4; semid >= 2; semid--) {
+        run(CRE_SEM, 1, semid, 1, 3);
+        run(CRE_SEM, 1, semid, 1, 3);
+        run(PREQ_SEM, 1, semid, 0, 0);
+        run(PREQ_SEM, 1, semid, 0, 0);
+        for (task = 2; task <= 7; task++)
+            run(task % 2 == 0 ? WAI_SEM : TWAI_SEM, task, semid, 5, 0);
+        run(SIG_SEM, 0, semid, 0, 0);
+        run(REF_SEM, 0, semid, 0, 0);
+        if (code != MAST_E_OK || !refuse_itron())
+            return 0;
+        if (semid == 3)
+            run(DELETE_MAPPED, 1, list[2], 0, 0);
+        else
+            run(DEL_SEM, 1, semid, 0, 0);
+        if (code != MAST_E_OK || list[semid - 1] != 0)
+            return 0;
+    }
+    run(ITRON_CODE, MAST_OBJECT_WAS_DELETED, 0, 0, 0);
+    return code == MAST_E_DLT;
+}
+
+/* Whether the file saved was loaded, after one that is a byte short. */
+static int run_state(void)
+{
+    uint32_t length;
+    run(SAVE, 0, 0, 0, 0);
+    length = answered.value;
+    run(LOAD, length - 1, 0, 0, 0);
+    run(LOAD, length, 0, 0, 0);
+    return answered.status == MAST_SUCCESSFUL && memcmp(tables, other, sizeof tables) == 0;
 }
 
 int main(void)
@@ -115,15 +192,15 @@ int main(void)
         fprintf(stderr, "the run of sections did not come to its end\n");
         return 1;
     }
-    run(SAVE, 0, 0, 0, 0);
-    i = answered.value;
-    run(LOAD, i - 1, 0, 0, 0);
-    run(LOAD, i, 0, 0, 0);
-    if (answered.status != MAST_SUCCESSFUL || memcmp(tables, other, sizeof tables) != 0) {
+    if (!run_state()) {
         fprintf(stderr, "the file saved was not loaded\n");
         return 1;
     }
+    if (!run_itron()) {
+        fprintf(stderr, "the ITRON calls did not come to their end\n");
+        return 1;
+    }
     for (i = 0; i < FUNCTIONS; i++)
-        printf("mast_%-12s %5zu bytes\n", names[i], most[i]);
+        printf("mast_%-13s %5zu bytes\n", names[i], most[i]);
     return 0;
 }

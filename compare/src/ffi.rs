@@ -1,5 +1,7 @@
 //! The library's C functions, behind safe wrappers over lent bytes.
 
+mod itron;
+
 use crate::call::{Answer, Call, Manager};
 use crate::sections::lent::Lent;
 use crate::state::Keeper;

@@ -1,6 +1,7 @@
 //! The eight calls in place on the lent bytes, without the test for 25.
 
 pub mod agreement;
+pub mod itron;
 pub mod state;
 
 use crate::call::Answer;

@@ -6,6 +6,7 @@ pub mod call;
 pub mod ffi;
 pub mod fuzz;
 pub mod inplace;
+pub mod itron;
 pub mod layout;
 pub mod model;
 pub mod record;

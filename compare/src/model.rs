@@ -161,6 +161,11 @@ impl Machine {
         (slot.live.is_some() && slot.generation == generation).then_some(index)
     }
 
+    /// The live semaphore with this identifier.
+    pub fn semaphore(&self, id: u32) -> Option<&Semaphore> {
+        self.slots[self.find(id)?].live.as_ref()
+    }
+
     fn live(&mut self, id: u32) -> Result<(usize, &mut Semaphore), u32> {
         let index = self.find(id).ok_or(INVALID_ID)?;
         let semaphore = self.slots[index].live.as_mut().ok_or(INVALID_ID)?;

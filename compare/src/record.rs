@@ -3,11 +3,15 @@
 //! Words of four bytes, low byte first. An entry begins with its kind:
 //! a call's place in `KINDS`, five numbers of the call (for a start: slots, how many priorities, and those after the five; for an
 //! ident: the name, and how many slots it looks at), then status, value, next and the sum over the tables after the call; or `LEND`,
-//! or `WRITE`, or `END` with the number of calls. An ident is one entry for both functions that make it.
+//! or `WRITE`, or `END` with the number of calls. An ident is one entry for both functions that make it. What the entries of the ITRON
+//! calls are is in record/itron.rs.
+
+mod itron;
 
 use std::io::{self, Write};
 
 use crate::call::{Answer, Call, Manager};
+use crate::itron::seen::Seen;
 use crate::layout::Model;
 
 /// The tables now lie at this offset from a word and have this length; what they held stays, and bytes that are new are 0.
@@ -26,18 +30,23 @@ pub struct Recorder<W: Write> {
     out: W,
     /// The bytes that the board's tables hold now.
     held: Vec<u8>,
+    /// The entries that the board's list has now.
+    list: Vec<u32>,
+    /// The codes of the ITRON calls.
+    pub seen: Seen,
     calls: u64,
-    /// The calls that were made on tables that disagree.
+    /// The calls that were made on tables or a list that disagree.
     damaged: u64,
     failed: Option<io::Error>,
 }
 
 impl<W: Write> Recorder<W> {
     pub fn new(out: W) -> Self {
-        Recorder { out, held: Vec::new(), calls: 0, damaged: 0, failed: None }
+        let (held, list, seen) = (Vec::new(), Vec::new(), Seen::default());
+        Recorder { out, held, list, seen, calls: 0, damaged: 0, failed: None }
     }
 
-    /// Ends the record; how many calls it has, and how many of them on damaged tables.
+    /// Ends the record; how many calls it has, and how many of them on damaged tables or lists.
     pub fn finish(mut self) -> io::Result<(u64, u64)> {
         self.words(&[END, self.calls as u32]);
         self.out.flush()?;

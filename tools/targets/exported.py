@@ -6,13 +6,15 @@ from pathlib import Path
 
 ROOT = Path(__file__).resolve().parents[2]
 # Each has objects of its own in the library, so that a firmware links those whose functions it calls.
-CRATES = ("capi", "capi_state")
-WIDTHS = {"u8": 1, "u16": 2, "u32": 4, "u64": 8}
+CRATES = ("capi", "capi_state", "capi_itron")
+WIDTHS = {"u8": 1, "u16": 2, "u32": 4, "u64": 8, "i32": 4}
 FUNCTION = re.compile(r'pub\s+extern\s+"C"\s+fn\s+(\w+)\s*\((.*?)\)\s*(?:->\s*(\w+)\s*)?(?:requires|ensures|\{)', re.S)
 SLICE = re.compile(r"&(mut )?\[(\w+)\]")
 # A number that the function writes for its caller, by a pointer of its own.
 PLACE = "&mut u32"
-NUMBERS = {"u32": "i32", "u64": "i64"}
+NUMBERS = {"u32": "i32", "u64": "i64", "i32": "i32"}
+# What may be lent as a slice.
+ELEMENTS = ("u8", "u16", "u32", "u64")
 
 
 class Unknown(Exception):
@@ -40,16 +42,17 @@ def fields(name):
 class Parameter:
     def __init__(self, name, kind):
         self.name, self.kind, self.slice = name, kind, SLICE.fullmatch(kind)
-        if self.slice and self.slice[2] not in WIDTHS or not self.slice and kind not in (*NUMBERS, "usize", PLACE):
+        if self.slice and self.slice[2] not in ELEMENTS or not self.slice and kind not in (*NUMBERS, "usize", PLACE):
             raise Unknown(f"parameter {name} has type {kind}, which the shim does not know")
         self.inner = "ptr" if self.slice or kind == PLACE else NUMBERS.get(kind, "i64")
 
 
 class Function:
-    """One exported function. It gives back a struct (`answer`), an integer (`number`, as LLVM writes its type) or nothing."""
+    """One exported function. It gives back a struct (`answer`), an integer (`number`, as LLVM writes its type, and `kind`) or nothing."""
 
     def __init__(self, crate, name, parameters, result):
         self.crate, self.name, self.parameters, self.number, self.answer = crate, name, parameters, NUMBERS.get(result), None
+        self.kind = result if self.number else None
         if result and not self.number:
             self.answer = result
             self.fields, self.size = fields(result)

@@ -161,10 +161,11 @@ def check_painted(run, target):
     own = dict(line.split("\t")[:2] for line in (run / "program.su").read_text().splitlines())
     extra = sum(int(size) for place, size in own.items() if place.endswith((":memcpy", ":memmove", ":memset")))
     found = re.findall(r"^(mast_\w+) (\d+)$", (run / "out").read_text(), re.M)
+    reported = {name for name, _ in found}
     known = [stacks(target, crate) for crate in CRATES]
-    bounds = next((each for each in known if set(each) == {name for name, _ in found}), None)
-    if not bounds:
-        fail(f"{target}: the report has not the stack of every function of a crate")
+    bounds = {name: bound for each in known if set(each) <= reported for name, bound in each.items()}
+    if not bounds or set(bounds) != reported:
+        fail(f"{target}: the report has not the stack of every function of a crate, or that of another function")
     for name, painted in found:
         if int(painted) > bounds[name] + extra:
             fail(f"{target}: {name} took {painted} bytes of stack, and its bound is {bounds[name]}, with {extra} for memcpy and memset")

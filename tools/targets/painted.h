@@ -16,6 +16,7 @@ static void call_painted(void (*make_call)(void), cost *most)
 {
     size_t left = 0;
     uint32_t earlier, counts, depth;
+    uintptr_t deepest;
     for (size_t at = 0; at < STACK / 4; at++)
         stack[at] = 0xA5A5A5A5;
     earlier = clock();
@@ -27,7 +28,8 @@ static void call_painted(void (*make_call)(void), cost *most)
         left++;
     if (left == 0)
         refuse("a call took more stack than there is\n");
-    depth = left < STACK / 4 ? called_at - (uintptr_t)(stack + left) : 0;
+    deepest = (uintptr_t)(stack + left);
+    depth = deepest < called_at ? called_at - deepest : 0; /* none if the caller's own frame is all that was written */
     if (depth > most->stack)
         most->stack = depth;
 }

@@ -49,6 +49,7 @@ EDITS = {
 # What rattle makes of exported functions with other types than today's, seen with a crate of such functions.
 WRAPPERS = {
     "fn f(a: u32) -> u32": "define noundef i32 @f(i32 noundef %a0) #0 {\nstart:\n  %r0 = call i32 @\"capi::f\"(i32 %a0)\n  ret i32 %r0\n}\n",
+    "fn f(a: i32) -> i32": "define noundef i32 @f(i32 noundef %a0) #0 {\nstart:\n  %r0 = call i32 @\"capi::f\"(i32 %a0)\n  ret i32 %r0\n}\n",
     "fn f(a: usize, b: u64) -> u64":
         "define noundef i64 @f(i64 noundef %a0, i64 noundef %a1) #0 {\nstart:\n  %r0 = call i64 @\"capi::f\"(i64 %a0, i64 %a1)\n  ret i64 %r0\n}\n",
     "fn f(t: &mut [u8])":
@@ -68,7 +69,7 @@ WRAPPERS = {
         "  store ptr %a1, ptr %r1, align 8\n  %r2 = getelementptr i8, ptr %r1, i64 8\n  store i64 %a2, ptr %r2, align 8\n"
         "  call void @\"capi::f\"(ptr %r0, i32 %a0, ptr %r1)\n  %r3 = load i64, ptr %r0, align 4\n  ret i64 %r3\n}\n",
 }
-TYPES = ["a: bool", "a: &u32", "a: &mut u64", "a: &[usize]", "a: &mut [Task]", "a: [u8; 4]", "a: u8"]
+TYPES = ["a: bool", "a: &u32", "a: &mut u64", "a: &[usize]", "a: &mut [Task]", "a: [u8; 4]", "a: u8", "a: i8", "a: i64", "a: &mut i32", "a: &[i32]"]
 
 # An exported function, whose number's place the shim aligns to 4, and one that it calls twice, with places of 4 and of 8 each time.
 COPIES = """define internal void @"capi::f"(ptr noundef %a0) #0 {

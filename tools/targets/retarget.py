@@ -28,7 +28,7 @@ BODY = (
     rf"  {R} = getelementptr (?:inbounds nuw )?i8, ptr {R}, i64 (?:{R}|\d+)",
     rf"  {R} = (?:add|sub|mul)(?: nuw)? {INT} {VALUE}, {VALUE}",
     rf"  {R} = (?:udiv|urem|and|or|xor|shl|lshr) {INT} {VALUE}, {VALUE}",
-    rf"  {R} = icmp (?:eq|ne|ult|ule|ugt|uge) {INT} {VALUE}, {VALUE}",
+    rf"  {R} = icmp (?:eq|ne|[us](?:lt|le|gt|ge)) {INT} {VALUE}, {VALUE}",
     rf"  {R} = (?:zext|trunc(?: nuw)?) {INT} {VALUE} to {INT}",
     rf"  (?:{R} = call {INT}|call void) {NAME}\((?:{ARGUMENT}(?:, {ARGUMENT})*)?\)",
     rf"  call void @llvm\.memmove\.p0\.p0\.i64\(ptr {R}, ptr {R}, i64 \d+, i1 false\)",
@@ -112,8 +112,9 @@ def retargeted(crate, text, layout, triple):
     for function in functions:
         text = text.replace(f"define internal {function.given()} {function.inner_name()}", f"define hidden {function.given()} @{function.raw_name()}")
     text = re.sub(NAME, lambda name: "@" + name[0][2:-1].replace("::", "."), text)  # as every assembler reads it
-    # Each call, and an obtain's step, keeps a frame of its own: taken into the one function that serves them all, they would add up.
-    text = re.sub(r"^(define internal .*@(?:calls\.(\w+)\.\2|semaphore\.Semaphore\.take)\(.*\)) #0 \{$", r"\1 noinline #0 {", text, flags=re.M)
+    # Each call, and an obtain's and a tick's step, keeps a frame of its own: taken into the one function that serves them all, they would add up.
+    kept = r"calls\.(\w+)\.\2|calls\.tick\.elapse|semaphore\.Semaphore\.take"
+    text = re.sub(rf"^(define internal .*@(?:{kept})\(.*\)) #0 \{{$", r"\1 noinline #0 {", text, flags=re.M)
     # A length of 64 bits would be handed to memmove and memset as it is, whose lengths have 32.
     text = re.sub(r"@(llvm\.mem[\w.]+)\.i64\((.*), i64( \d+)?, i1", r"@\1.i32(\2, i32\3, i1", text)
     return text

@@ -1,11 +1,11 @@
-"""Writes the C functions of include/mastclover.h over the inner functions of a proved crate's module: shim.py CRATE OUT.c"""
+"""Writes the C functions of a header of include/ over the inner functions of a proved crate's module: shim.py CRATE OUT.c"""
 import re
 import sys
 
-from exported import PLACE, Unknown, functions_of
+from exported import PLACE, ROOT, Unknown, functions_of
 
 HEAD = """/* Made by tools/targets/shim.py from crates/{crate}: the header's functions over the proved module's. */
-#include "mastclover.h"
+#include "{header}"
 
 /* A lent slice as the proved module lays it out on every processor. */
 typedef struct {
@@ -16,13 +16,19 @@ _Static_assert(sizeof(mast_slice) == 16 && offsetof(mast_slice, length) == 8, "a
 """
 
 
+def header_of(crate):
+    """capi_itron's functions are those of mastclover_itron.h; a crate without such a header has its own in mastclover.h."""
+    own = f"mastclover{crate.removeprefix('capi')}.h"
+    return own if (ROOT / "include" / own).exists() else "mastclover.h"
+
+
 def c_name(struct):
     """Answer is mast_answer in the header."""
     return "mast_" + re.sub(r"(?<!^)([A-Z])", r"_\1", struct).lower()
 
 
 def c_number(kind):
-    return {"u32": "uint32_t", "u64": "uint64_t", "usize": "size_t"}[kind]
+    return {"u8": "uint8_t", "u16": "uint16_t", "u32": "uint32_t", "u64": "uint64_t", "i32": "int32_t", "usize": "size_t"}[kind]
 
 
 def layout(function):
@@ -30,19 +36,19 @@ def layout(function):
     name = c_name(function.answer)
     tests = [f"sizeof({name}) == {function.size}"]
     for field, kind, at in function.fields:
-        tests.append(f"offsetof({name}, {field}) == {at} && sizeof((({name} *)0)->{field}) * 8 == {kind[1:]}")
+        tests.append(f"offsetof({name}, {field}) == {at} && _Generic((({name} *)0)->{field}, {c_number(kind)}: 1, default: 0)")
     return "".join(f'_Static_assert({test}, "{name} has the layout of {function.answer}");\n' for test in tests)
 
 
 def shim(function):
-    given = c_name(function.answer) if function.answer else {"i32": "uint32_t", "i64": "uint64_t", None: "void"}[function.number]
+    given = c_name(function.answer) if function.answer else c_number(function.kind) if function.kind else "void"
     inner, outer, slices, passed = [], [], [], []
     if function.answer:
         inner.append(f"{given} *")
         passed.append("&answer")
     for each in function.parameters:
         if each.slice:
-            kind = f"uint{each.slice[2][1:]}_t"
+            kind = c_number(each.slice[2])
             outer += [f"{'' if each.slice[1] else 'const '}{kind} *{each.name}", f"size_t {each.name}_length"]
             slices.append(f"    mast_slice {each.name}_slice = {{ {each.name}, {each.name}_length }};\n")
             inner.append("const mast_slice *")
@@ -74,7 +80,7 @@ def main():
         sys.exit(f"shim.py: {unknown}")
     structs = {each.answer: layout(each) for each in found if each.answer}
     with open(path, "w") as out:
-        out.write(HEAD.replace("{crate}", crate) + "".join(structs.values()) + "".join(map(shim, found)))
+        out.write(HEAD.replace("{crate}", crate).replace("{header}", header_of(crate)) + "".join(structs.values()) + "".join(map(shim, found)))
 
 
 if __name__ == "__main__":

@@ -159,7 +159,9 @@ fn measure_ident(tables: &mut [u8], name: u32) -> Option<[f64; 3]> {
 /// The table of idents; false if an answer is wrong.
 fn show_ident() -> bool {
     println!();
-    println!("idents, nanoseconds per call, {CALLS} calls, best of {ROUNDS}; name 0 is the test for 25 alone");
+    println!(
+        "idents, nanoseconds per call, {CALLS} calls, best of {ROUNDS}; name 0 is the test for 25 alone"
+    );
     println!(
         "{:<34} {:>9} {:>9} {:>9} {:>9} {:>9}",
         "", "name 0", "slot 64", "counted", "64/0", "counted/0"

@@ -110,7 +110,7 @@ impl Coverage {
             Call::Obtain { caller, id, .. } => self.saw_obtain(before, caller, id, answer, after),
             Call::Release { caller, id } => self.saw_release(before, caller, id, answer),
             Call::Flush { id, .. } => {
-                let waiters = semaphore(before, id).is_some_and(|live| !live.queue.is_empty());
+                let waiters = before.semaphore(id).is_some_and(|live| !live.queue.is_empty());
                 self.happened("flush woke waiters", answer.status == 0 && waiters);
             }
             Call::Tick => self.saw_tick(before, after),
@@ -138,7 +138,7 @@ impl Coverage {
 
     fn saw_delete(&mut self, before: &Machine, id: u32, answer: Answer) {
         let done = answer.status == SUCCESSFUL;
-        let waiters = semaphore(before, id).is_some_and(|live| !live.queue.is_empty());
+        let waiters = before.semaphore(id).is_some_and(|live| !live.queue.is_empty());
         self.happened("delete woke waiters", done && waiters);
         self.happened("slot retired", done && id >> 16 == LAST_GENERATION);
     }
@@ -150,7 +150,7 @@ impl Coverage {
             && id / 65536 < before.slots[number - 1].generation
             && id >= 65536;
         self.happened("obtain of a stale identifier", reused && answer.status == INVALID_ID);
-        let Some(live) = semaphore(before, id) else { return };
+        let Some(live) = before.semaphore(id) else { return };
         let owned = live.class == Class::Binary && live.owner == caller;
         self.happened("obtain nested", owned && answer.status == SUCCESSFUL);
         let at_end = owned && live.nest == u32::MAX && answer.status == UNSATISFIED;
@@ -164,7 +164,7 @@ impl Coverage {
     }
 
     fn saw_joining(&mut self, caller: u32, id: u32, after: &Machine) {
-        let Some(live) = semaphore(after, id) else { return };
+        let Some(live) = after.semaphore(id) else { return };
         let urgency = |task: &u32| after.tasks[*task as usize - 1].priority;
         let Some(place) = live.queue.iter().position(|&task| task == caller) else { return };
         let tie = place > 0 && urgency(&live.queue[place - 1]) == urgency(&caller);
@@ -176,7 +176,7 @@ impl Coverage {
     }
 
     fn saw_release(&mut self, before: &Machine, caller: u32, id: u32, answer: Answer) {
-        let Some(live) = semaphore(before, id) else { return };
+        let Some(live) = before.semaphore(id) else { return };
         let done = answer.status == SUCCESSFUL;
         let refused = answer.status == UNSATISFIED;
         self.happened("release of a nest", done && live.nest > 1);
@@ -201,7 +201,7 @@ impl Coverage {
                 continue;
             };
             ended += 1;
-            let queue = semaphore(before, id).map_or(&[][..], |live| &live.queue);
+            let queue = before.semaphore(id).map_or(&[][..], |live| &live.queue);
             let ends = queue.first() == Some(&number) || queue.last() == Some(&number);
             self.happened("tick ended a wait in the middle of a queue", !ends);
         }
@@ -239,9 +239,4 @@ impl Coverage {
         }
         lines
     }
-}
-
-/// The live semaphore with this identifier.
-fn semaphore(machine: &Machine, id: u32) -> Option<&Semaphore> {
-    machine.slots[machine.find(id)?].live.as_ref()
 }

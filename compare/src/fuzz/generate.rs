@@ -2,7 +2,7 @@
 
 use crate::call::Call;
 use crate::fuzz::rng::Rng;
-use crate::model::{identifier, Class, Machine, Semaphore};
+use crate::model::{identifier, Class, Machine};
 use crate::status::*;
 
 /// How one random sequence is drawn.
@@ -155,7 +155,7 @@ fn draw_name(rng: &mut Rng) -> u32 {
 }
 
 /// A caller, an interrupt `interrupts` times in a hundred and mostly a ready task.
-fn draw_caller(rng: &mut Rng, machine: &Machine, interrupts: usize) -> u32 {
+pub fn draw_caller(rng: &mut Rng, machine: &Machine, interrupts: usize) -> u32 {
     if rng.chance(interrupts) {
         return 0;
     }
@@ -180,7 +180,7 @@ fn draw_task(rng: &mut Rng, machine: &Machine) -> u32 {
 }
 
 /// An identifier, mostly of a live semaphore.
-fn draw_id(rng: &mut Rng, machine: &Machine) -> u32 {
+pub fn draw_id(rng: &mut Rng, machine: &Machine) -> u32 {
     let is_live = |index: &usize| machine.slots[*index].live.is_some();
     let live: Vec<usize> = (0..machine.slots.len()).filter(is_live).collect();
     if !live.is_empty() && rng.chance(88) {
@@ -210,7 +210,7 @@ fn draw_wrong_id(rng: &mut Rng, machine: &Machine) -> u32 {
 
 /// The owner of the binary semaphore with this identifier, if that task is ready.
 fn binary_owner(machine: &Machine, id: u32) -> Option<u32> {
-    let live: &Semaphore = machine.slots[machine.find(id)?].live.as_ref()?;
+    let live = machine.semaphore(id)?;
     let ready = live.class == Class::Binary && live.owner != 0 && !machine.is_waiting(live.owner);
     ready.then_some(live.owner)
 }

@@ -110,21 +110,18 @@ fn event_of_no_kind(input: &Input) -> bool {
     input.events.iter().any(|event| matches!(event, Event::Unknown | Event::Call(Call::Task { .. })))
 }
 
-fn semaphore(input: &Input, id: u32) -> Option<&Semaphore> {
-    input.machine.slots[input.machine.find(id)?].live.as_ref()
-}
-
 fn semaphore_not_live(input: &Input) -> bool {
-    sections(input).any(|section| semaphore(input, section.id).is_none())
+    sections(input).any(|section| input.machine.semaphore(section.id).is_none())
 }
 
 fn semaphore_not_binary(input: &Input) -> bool {
     let other = |live: &Semaphore| ![BINARY, BINARY + PRIORITY].contains(&live.attributes());
-    sections(input).any(|section| semaphore(input, section.id).is_some_and(other))
+    sections(input).any(|section| input.machine.semaphore(section.id).is_some_and(other))
 }
 
 fn semaphore_owned(input: &Input) -> bool {
-    sections(input).any(|section| semaphore(input, section.id).is_some_and(|live| live.owner != 0))
+    sections(input)
+        .any(|section| input.machine.semaphore(section.id).is_some_and(|live| live.owner != 0))
 }
 
 fn script_of_no_task(input: &Input) -> bool {

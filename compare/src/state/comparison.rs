@@ -112,7 +112,7 @@ fn same_count(expected: u32, found: u32) -> Compared {
     }
 }
 
-fn same_tables(tables: &Lent, wanted: &[u8]) -> Compared {
+pub fn same_tables(tables: &Lent, wanted: &[u8]) -> Compared {
     if tables.bytes() == wanted && tables.guards_hold() {
         return Ok(());
     }

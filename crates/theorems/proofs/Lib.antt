@@ -1,2 +1,4 @@
 pub mod Theorems
 pub mod StateFile
+pub mod BesideTheList
+pub mod Itron

@@ -1,9 +1,10 @@
-/* The kit's clang has no headers of its own: what mastclover.h needs of this one. */
+/* The kit's clang has no headers of its own: what the headers of include/ need of this one. */
 #ifndef MAST_TARGETS_STDINT_H
 #define MAST_TARGETS_STDINT_H
 typedef __UINT8_TYPE__ uint8_t;
 typedef __UINT16_TYPE__ uint16_t;
 typedef __UINT32_TYPE__ uint32_t;
 typedef __UINT64_TYPE__ uint64_t;
+typedef __INT32_TYPE__ int32_t;
 typedef __UINTPTR_TYPE__ uintptr_t;
 #endif

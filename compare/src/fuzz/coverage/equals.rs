@@ -1,7 +1,7 @@
 //! What a comparison has to have seen of tasks of equal priority and of the sequence of ready tasks.
 
 use crate::call::{Answer, Call};
-use crate::fuzz::coverage::{semaphore, Coverage};
+use crate::fuzz::coverage::Coverage;
 use crate::model::{Machine, State};
 use crate::status::*;
 
@@ -146,7 +146,7 @@ impl Coverage {
             State::Ready { .. } => 0,
         };
         let place = |task: u32| {
-            let queue = semaphore(before, awaited(task)).map(|live| &live.queue);
+            let queue = before.semaphore(awaited(task)).map(|live| &live.queue);
             queue.and_then(|queue| queue.iter().position(|&queued| queued == task))
         };
         for &(first, second) in pairs {

@@ -1,0 +1,16 @@
+pub mod Standing
+pub mod Runs
+pub mod Passing
+pub mod Refused
+pub mod Stays
+pub mod Entries
+pub mod Ending
+pub mod Kept
+pub mod Equations
+pub mod Identifiers
+pub mod Codes
+pub mod Worked
+pub mod Witnesses
+pub mod Replies
+pub mod Lent
+pub mod Free
