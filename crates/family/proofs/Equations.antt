@@ -21,7 +21,6 @@ use Rattle.rules.specs.Machine.{Slot, Tables, slotOf, names, next}
 use Rattle.rules.specs.Calls.{perform}
 use Rattle.rules.proofs.History.Used.{named-names}
 use Rattle.tables.specs.Layout.{laid, modelOf}
-use Rattle.agreement.specs.Bytes.{agreesBytes}
 use Rattle.manager.specs.Entry.{Reply, reply, noNext, replyTo}
 use Rattle.manager.proofs.Tested.{tested}
 use Rattle.mapping.specs.Mapping.{entryOf, forgotten, ListFits}
@@ -32,6 +31,7 @@ use Rattle.itron.specs.Codes.{minus, eOk, eSys, eNomem, eQovr, eTmout, codeOf, 
 use Rattle.itron.specs.Calls.{Listed, toldNothing, attributesOf, waitFor, creRefusal, delRefusal, sigRefusal, twaiRefusal}
 use Rattle.itron.specs.Calls.{creSem, delSem, sigSem, waiSem, preqSem, twaiSem, refSem, deleteMapped}
 use Rattle.itron_calls.specs.Reply.{bothAgree, ListReply, replyWith, noCode, codeReply, refReply, deleteReply}
+use Rattle.itron_calls.proofs.Replying.{bytes-agree}
 use Rattle.family.specs.Family.{Itron, called}
 use Rattle.family.specs.Family.Itron.{CreSem, DelSem, SigSem, TwaiSem}
 use Rattle.family.specs.Promises.{overReply, mappedReply, replyUnless}
@@ -57,14 +57,10 @@ module _ (bs list : List ℕ) (disagree : bothAgree bs list ≡ false) where
 -- ---- and those that do
 
 module _ (bs list : List ℕ) (agree : bothAgree bs list ≡ true) where
-  tables-agree : agreesBytes bs ≡ true
-  unfolding bothAgree
-  tables-agree = and-both _ _ agree .0
-
   -- the Classic reply is that of the rules
   classic : (call : Call) → reply (perform (modelOf bs) call []) ≡ replyTo bs call []
   unfolding replyTo
-  classic call = sym (if-yes _ _ tables-agree)
+  classic call = sym (if-yes _ _ (bytes-agree bs list agree))
 
   pub reply-called : (call : Tables → List ℕ → Listed Coded) → let o = call (modelOf bs) list in
       codeReply bs list call ≡ record { answer = o .answer; bytes = laid (o .tables); list = o .list }
@@ -80,7 +76,7 @@ module _ (bs list : List ℕ) (agree : bothAgree bs list ≡ true) where
       ∙ ap {B = ListReply Coded} (λ (o : Listed Coded). record { answer = o .answer; bytes = laid (o .tables); list = o .list })
       (called-is call (modelOf bs) list ∙ if-no _ _ n)
       ∙ ap {B = ListReply Coded} (λ (l : List ℕ). record { answer = record { code = r; next = next (modelOf bs) }; bytes = l; list = list })
-      (sym (tested b tables-agree .same))
+      (sym (tested b (bytes-agree bs list agree) .same))
 
   -- the Classic reply otherwise
   done-reply : (call : Itron) → nonNeg (refusalOf call (modelOf bs) list) ≡ true → let o = outcomeOf call (modelOf bs) list in

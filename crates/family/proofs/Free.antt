@@ -27,6 +27,7 @@ use Rattle.itron.specs.declared.Coded.{Coded}
 use Rattle.itron.specs.Codes.{eOk, eNomem, codeOf, statusCode}
 use Rattle.itron.specs.Calls.{Listed, countsAllowed, attributesOf, creRefusal, deleteMapped}
 use Rattle.itron_calls.specs.Reply.{bothAgree, ListReply, replyWith, codeReply, deleteReply}
+use Rattle.itron_calls.proofs.Replying.{list-agrees}
 use Rattle.family.specs.Family.{Itron, called, isSigned, itronFits}
 use Rattle.family.specs.Family.Itron.{CreSem, DelSem}
 use Rattle.family.specs.Family.Event.{Family}
@@ -37,7 +38,7 @@ use Rattle.family.proofs.Passing.{Ranged, maxsem-signed, task-let-in}
 use Rattle.family.proofs.Ending.{delete-done-named}
 use Rattle.family.proofs.Kept.{family-kept, mapped-delete-kept, stays}
 use Rattle.family.proofs.Equations.{reply-called, disagreed-deletes-nothing}
-use Rattle.family.proofs.Replies.{tables-agree, list-agrees, family-reply-kept, mapped-delete-reply-kept, ok-agree}
+use Rattle.family.proofs.Replies.{tables-agree, family-reply-kept, mapped-delete-reply-kept, ok-agree}
 use Rattle.family.proofs.Codes.{create-status, attributes-allowed, counts-allowed}
 use Rattle.family.proofs.Identifiers.{ok-is, deleted-is-nothing, del-range, del-tables}
 

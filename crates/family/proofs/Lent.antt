@@ -29,10 +29,11 @@ use Rattle.itron.specs.declared.Coded.{Coded}
 use Rattle.itron.specs.Codes.{eOk, eSys}
 use Rattle.itron.specs.Calls.{Listed, deleteMapped}
 use Rattle.itron_calls.specs.Reply.{bothAgree, ListReply, replyWith, noCode, codeReply}
+use Rattle.itron_calls.proofs.Replying.{bytes-agree}
 use Rattle.family.specs.Family.{Itron, called, itronFits, Event, codeIn, Lent, afterEvent, afterEvents, eventFits, eventsFit}
 use Rattle.family.specs.Family.Itron.{CreSem, DelSem}
 use Rattle.family.specs.Family.Event.{Family, DeleteMapped, Classic}
-use Rattle.family.proofs.Replies.{bytes-agree, ok-agree}
+use Rattle.family.proofs.Replies.{ok-agree}
 use Rattle.family.proofs.Kept.{family-kept, mapped-delete-kept}
 use Rattle.family.proofs.Identifiers.{unnamed-stays, cre-made, created-entries-differ, deleted-never-given, plain-delete-ends-the-list}
 use Rattle.family.proofs.Runs.{Both, agreeTogether, bothAfter, bothAfterAll, bothCode, bothIn}

@@ -40,6 +40,7 @@ use Rattle.itron.specs.declared.Reference.{Reference}
 use Rattle.itron.specs.Codes.{eOk, eSys, codeOf}
 use Rattle.itron.specs.Calls.{deleteMapped}
 use Rattle.itron_calls.specs.Reply.{bothAgree, ListReply, replyWith, codeReply, refReply, deleteReply}
+use Rattle.itron_calls.proofs.Replying.{bytes-agree, list-agrees}
 use Rattle.family.specs.Family.{Itron, called, codes, refCodes, itronFits}
 use Rattle.family.specs.Family.Itron.{CreSem, DelSem, SigSem, WaiSem, PreqSem, TwaiSem}
 use Rattle.family.specs.Promises.{isCode, waitCodes, unmaps}
@@ -81,41 +82,33 @@ unstarted-list-exactly list = (
         ∙ fit-none listLength 0
 
 module _ (bs list : List ℕ) (agree : bothAgree bs list ≡ true) where
-  pub bytes-agree : agreesBytes bs ≡ true
-  unfolding bothAgree
-  bytes-agree = and-both _ _ agree .0
-
   pub tables-agree : agrees (modelOf bs) ≡ true
   unfolding agreesBytes
-  tables-agree = and-both _ _ bytes-agree .1
-
-  pub list-agrees : listAgrees (modelOf bs) list ≡ true
-  unfolding bothAgree
-  list-agrees = and-both _ _ agree .1
+  tables-agree = and-both _ _ (bytes-agree bs list agree) .1
 
   -- ---- agreement is kept
 
   pub family-reply-kept : (call : Itron) → itronFits call ≡ true → let r = codeReply bs list (called call) in bothAgree (r .bytes) (r .list) ≡ true
   family-reply-kept call fits =
       subst (λ (r : ListReply Coded). bothAgree (r .bytes) (r .list) ≡ true) (sym (reply-called bs list agree (called call)))
-      (both-laid _ _ (family-kept (modelOf bs) list tables-agree list-agrees call fits))
+      (both-laid _ _ (family-kept (modelOf bs) list tables-agree (list-agrees bs list agree) call fits))
 
   pub mapped-delete-reply-kept : (caller id : ℕ) → let r = deleteReply bs list caller id in bothAgree (r .bytes) (r .list) ≡ true
   unfolding replyWith
   mapped-delete-reply-kept caller id =
       subst (λ (r : ListReply Answer). bothAgree (r .bytes) (r .list) ≡ true) (sym (if-yes _ _ agree))
-      (both-laid _ _ (mapped-delete-kept (modelOf bs) list tables-agree list-agrees caller id))
+      (both-laid _ _ (mapped-delete-kept (modelOf bs) list tables-agree (list-agrees bs list agree) caller id))
 
   -- by the manager's own calls, but for a delete that was done of an identifier in the list
   pub classic-reply-kept : (call : Call) (priorities : List ℕ) → callFits call ≡ true → let r = replyTo bs call priorities in
       (r .answer .status ≡ 0 → unmaps call list ≡ false) → bothAgree (r .bytes) list ≡ true
   classic-reply-kept call priorities fits other =
-      let is = reply-is bs call priorities bytes-agree in
+      let is = reply-is bs call priorities (bytes-agree bs list agree) in
       let t = modelOf bs in
       subst (λ (r : Reply). bothAgree (r .bytes) list ≡ true) (sym is)
       (both-laid _ list (
         agrees-true _ (kept t call priorities fits (true-agrees t tables-agree)),
-        classic-kept t list tables-agree list-agrees (record { call = call; priorities = priorities })
+        classic-kept t list tables-agree (list-agrees bs list agree) (record { call = call; priorities = priorities })
             (λ z. other (ap (λ (r : Reply). r .answer .status) is ∙ z)),
       ))
 
@@ -123,7 +116,7 @@ module _ (bs list : List ℕ) (agree : bothAgree bs list ≡ true) where
   pub reply-next : (call : Itron) → itronFits call ≡ true → let r = codeReply bs list (called call) in r .answer .next ≡ next (modelOf (r .bytes))
   reply-next call fits =
       let t = modelOf bs in
-      let g = true-agrees _ (family-kept t list tables-agree list-agrees call fits .0) in
+      let g = true-agrees _ (family-kept t list tables-agree (list-agrees bs list agree) call fits .0) in
       subst (λ (r : ListReply Coded). r .answer .next ≡ next (modelOf (r .bytes))) (sym (reply-called bs list agree (called call)))
       (next-told call t list ∙ ap next (sym (modelOf-agrees _ g)))
 
@@ -132,7 +125,7 @@ module _ (bs list : List ℕ) (agree : bothAgree bs list ≡ true) where
   pub reply-listed : (call : Itron) → itronFits call ≡ true → isCode (codeReply bs list (called call) .answer .code) (codes call) ≡ true
   reply-listed call fits =
       subst (λ (r : ListReply Coded). isCode (r .answer .code) (codes call) ≡ true) (sym (reply-called bs list agree (called call)))
-      (codes-listed (modelOf bs) list tables-agree list-agrees call fits)
+      (codes-listed (modelOf bs) list tables-agree (list-agrees bs list agree) call fits)
 
   pub ref-reply-listed : (caller semid : ℕ) → isCode (refReply bs list caller semid .code) refCodes ≡ true
   unfolding refReply

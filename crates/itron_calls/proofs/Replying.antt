@@ -25,16 +25,16 @@ use Rattle.itron.specs.Calls.{Listed, refusedBy, unlessRefused, over, deleteMap
 use Rattle.itron_calls.specs.Reply.{bothAgree, replyWith, noCode, codeReply, deleteReply, Leaves}
 
 module _ (bs list : List ℕ) (e : bothAgree bs list ≡ true) where
-  pub tables-agree : agreesBytes bs ≡ true
+  pub bytes-agree : agreesBytes bs ≡ true
   unfolding bothAgree
-  tables-agree = and-both _ _ e .0
+  bytes-agree = and-both _ _ e .0
 
   pub list-agrees : listAgrees (modelOf bs) list ≡ true
   unfolding bothAgree
   list-agrees = and-both (agreesBytes bs) _ e .1
 
   pub both-tested : Bytes bs → Agreeing bs
-  both-tested b = tested b tables-agree
+  both-tested b = tested b bytes-agree
 
 -- tables or a list that do not agree are left alone
 module _ {A : Type 0} (bs list : List ℕ) (disagreed : A) (call : Tables → List ℕ → Listed A) where

@@ -1,16 +1,10 @@
 -- Single entries of the list: what a look behind its end finds, and what a change there does.
-use mathlib.Core.Path.{_≡_, refl, sym, ap, _∙_}
-use mathlib.Core.List.{List, [], _∷_}
-use Prim.Native.Nat.{ℕ, zero, suc, pred, _≤_}
-use native.Mathlib.Omega.{arith}
+use mathlib.Core.Path.{_≡_, sym, ap, _∙_}
+use mathlib.Core.List.{List}
+use Prim.Native.Nat.{ℕ, pred, _≤_}
 use lib.ListN.{length, getD, set, List·getD-eq-default}
+use lib.Seq.{set-out}
 use Rattle.mapping.specs.Mapping.{entryOf, mapTo}
-
--- a change behind the end is none
-pub set-behind : (l : List ℕ) (i v : ℕ) → length l ≤ i → set l i v ≡ l
-set-behind [] i v h = refl
-set-behind (x ∷ xs) zero v h = absurd (omega arith)
-set-behind (x ∷ xs) (suc i) v h = ap (λ (r : List ℕ). x ∷ r) (set-behind xs i v (omega arith))
 
 module _ (list : List ℕ) (semid k : ℕ) (at : k ≡ pred semid) where
   pub entry-behind : length list ≤ k → 0 ≡ entryOf list semid
@@ -23,4 +17,4 @@ module _ (list : List ℕ) (semid k : ℕ) (at : k ≡ pred semid) where
   mapped-there id = ap (λ (i : ℕ). set list i id) at
 
   pub mapped-behind : (id : ℕ) → length list ≤ k → list ≡ mapTo list semid id
-  mapped-behind id h = sym (set-behind list k id h) ∙ mapped-there id
+  mapped-behind id h = sym (set-out list k id h) ∙ mapped-there id

@@ -25,10 +25,11 @@ use Rattle.state.proofs.Answered.{read-answers}
 use Rattle.state.proofs.Loading.{load-agrees}
 use Rattle.mapping.specs.Mapping.{listLength, listAgrees}
 use Rattle.itron_calls.specs.Reply.{bothAgree}
+use Rattle.itron_calls.proofs.Replying.{list-agrees}
 use Rattle.family.specs.Promises.{unmaps}
 use Rattle.family.proofs.Ending.{step-is}
 use Rattle.family.proofs.Kept.{classic-kept}
-use Rattle.family.proofs.Replies.{both-laid, list-agrees, empty-reply-agrees, unstarted-list-exactly}
+use Rattle.family.proofs.Replies.{both-laid, empty-reply-agrees, unstarted-list-exactly}
 use Rattle.sections.specs.Scripts.{Script, indexOf}
 use Rattle.sections.specs.Run.{Event, State, Act, actOf, acted, called, ask, eventOf, runFrom}
 use Rattle.sections.specs.Run.Event.{Turn, Other, NoEvent}

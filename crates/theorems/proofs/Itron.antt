@@ -36,6 +36,7 @@ use Rattle.itron.specs.Codes.{minus, eOk, eSys, eNomem, eQovr, eTmout, codeOf, 
 use Rattle.itron.specs.Calls.{Listed, toldNothing, attributesOf, waitFor, creRefusal, delRefusal, sigRefusal, twaiRefusal}
 use Rattle.itron.specs.Calls.{creSem, delSem, sigSem, waiSem, preqSem, twaiSem}
 use Rattle.itron_calls.specs.Reply.{bothAgree, noCode, codeReply, refReply, deleteReply}
+use Rattle.itron_calls.proofs.Replying.{bytes-agree}
 use Rattle.family.specs.Family.{Itron, called, codes, refCodes, itronFits, Event, Lent, codeIn, afterEvent, afterEvents, eventFits, eventsFit}
 use Rattle.family.specs.Family.Itron.{CreSem, DelSem}
 use Rattle.family.specs.Family.Event.{Family}
@@ -64,7 +65,7 @@ unstarted-list-exactly = replies.unstarted-list-exactly
 -- a loaded state begins with an empty list: a list that agrees where a file is loaded is that one, and it agrees with what was loaded
 pub loaded-list-is-empty : (bs file list : List ℕ) → Bytes bs → loadReply bs file .answer .status ≡ 0 → bothAgree bs list ≡ true
     → (list ≡ replicate listLength 0) × (bothAgree (loadReply bs file .bytes) list ≡ true)
-loaded-list-is-empty bs file list b done agree = beside.loaded-list bs file b done (replies.bytes-agree bs list agree) list agree
+loaded-list-is-empty bs file list b done agree = beside.loaded-list bs file b done (bytes-agree bs list agree) list agree
 
 -- ---- tables or a list that do not agree
 
