@@ -231,7 +231,7 @@ static void display_step(struct task *self)
     case ASKED:
         if (self->answer == MAST_SUCCESSFUL) {
             self->state = DRAW;
-            obtain(self, bus, MAST_NO_TIMEOUT);
+            obtain(self, bus, MAST_STANDARD_TIMEOUT);
             say_status(self->name, "obtains the bus", self->answer);
         } else {
             say(self->name, "goes dark");
@@ -239,9 +239,14 @@ static void display_step(struct task *self)
         }
         break;
     case DRAW:
-        draw_text(self);
         self->state = IDLE;
-        say_status(self->name, "releases the bus", release(self, bus));
+        /* The logger needs the bus for a few ticks: past the standard limit the picture is given up. */
+        if (self->answer == MAST_SUCCESSFUL) {
+            draw_text(self);
+            say_status(self->name, "releases the bus", release(self, bus));
+        } else {
+            say(self->name, "gives up the picture");
+        }
         break;
     case DONE:
         obtain(self, halt, MAST_NO_TIMEOUT);

@@ -37,6 +37,16 @@
  * MAST_SUCCESSFUL (it has the semaphore), MAST_TIMEOUT, MAST_OBJECT_WAS_DELETED or MAST_UNSATISFIED
  * (flushed).
  *
+ * Upgrading. A timeout of 0 used to wait for ever, and a task that had it by accident hung. Now 0 is
+ * the standard limit, 500 ticks, and 4294967295, which was that many ticks, is for ever. Source that
+ * says MAST_NO_TIMEOUT still waits for ever once it is compiled anew; an object from before hands over
+ * 0 and waits 500 ticks, so compile all of it with this header and link this library. A literal 0, or
+ * one that is computed or left in cleared memory, now waits 500 ticks at the most and ends with
+ * MAST_TIMEOUT, also in the rows and events of mast_run: where for ever is meant say MAST_NO_TIMEOUT,
+ * keep it in a uint32_t, and ask for it by its name. MAST_NO_WAIT and the calls of mastclover_itron.h
+ * are as they were. Tables and state files from before stay valid: 0 ticks left is for ever there, as
+ * it was.
+ *
  * Identifiers are generation * 65536 + slot, with slots from 1. A slot's generation goes up by one
  * with each create, so the identifier of a deleted semaphore is never given again, and a slot freed
  * at generation 65535 is not used again; mast_load alone goes back to the time of its file.
@@ -138,8 +148,9 @@ extern "C" {
 #define MAST_WAIT 0
 #define MAST_NO_WAIT 1
 
-/* The timeout of mast_obtain that waits for ever. */
-#define MAST_NO_TIMEOUT 0
+/* Timeouts of mast_obtain that are no number of ticks. */
+#define MAST_STANDARD_TIMEOUT 0      /* the standard limit, 500 ticks */
+#define MAST_NO_TIMEOUT 4294967295u  /* for ever: say it where RTEMS has RTEMS_NO_TIMEOUT */
 
 /* A status or a task's answer; a semaphore's identifier; its name, any number but 0. */
 typedef uint32_t mast_status;
@@ -241,8 +252,9 @@ mast_answer mast_delete(uint8_t *tables, size_t length, uint32_t caller, mast_id
  * Obtains a semaphore. With a count above 0 the count goes down by one, and a binary semaphore gets
  * the caller as its owner. The owner of a binary semaphore obtains it once more, to be released as
  * often. Otherwise MAST_NO_WAIT refuses and MAST_WAIT queues the caller, which then waits for
- * `timeout` ticks, or for ever with MAST_NO_TIMEOUT; with MAST_NO_WAIT the timeout has no effect. A
- * simple binary semaphore makes even the task that holds it wait. Not from an interrupt.
+ * `timeout` ticks at the most, 500 ticks with MAST_STANDARD_TIMEOUT, or for ever with MAST_NO_TIMEOUT;
+ * with MAST_NO_WAIT the timeout has no effect. A simple binary semaphore makes even the task that
+ * holds it wait. Not from an interrupt.
  *
  *   MAST_INTERNAL_ERROR    the tables are damaged or have the wrong length
  *   MAST_CALLED_FROM_ISR   caller 0

@@ -107,7 +107,10 @@ extern "C" {
 #define MAST_TA_TFIFO 0 /* waiters are served by arrival */
 #define MAST_TA_TPRI 1  /* waiters are served by priority, equals by arrival */
 
-/* tmout of mast_twai_sem; any number above 0 is so many ticks of mast_tick. */
+/*
+ * tmout of mast_twai_sem; any number above 0 is so many ticks of mast_tick. These are not the timeouts
+ * of mast_obtain, where 0 is the standard limit.
+ */
 #define MAST_TMO_FEVR (-1) /* for ever */
 #define MAST_TMO_POL 0     /* not at all */
 

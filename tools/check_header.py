@@ -3,7 +3,8 @@
 check_header.py [HEADER]
 HEADER is include/mastclover.h if none is named; by its name it is that one or mastclover_itron.h, of which the macros that it defines
 itself are looked at. A macro MAST_.. that no definition has fails, and so does a number of crates/rules/specs/Numbers.antt, or for
-mastclover_itron.h a code of crates/itron/specs/Codes.antt, without a macro, but for those in UNNAMED.
+mastclover_itron.h a code of crates/itron/specs/Codes.antt, without a macro, but for those in UNNAMED. So do ticks that the text tells of
+and that are not the standard limit.
 """
 import pathlib
 import re
@@ -14,8 +15,8 @@ import tempfile
 top = pathlib.Path(__file__).resolve().parent.parent
 NUMBERS = top / "crates/rules/specs/Numbers.antt"
 SPECS = {name: (top / f"crates/{name}/specs") for name in ("rules", "tables", "sections", "encoding", "state", "mapping", "itron")}
-# No call takes a generation: this limit has no macro.
-UNNAMED = {"maxGeneration"}
+# No call takes a generation or the ticks of the standard limit: these have no macro. Timeouts are looked up in waitOf.
+UNNAMED = {"maxGeneration", "standardLimit", "standardTimeout", "noTimeout"}
 
 
 # ---- the definitions
@@ -87,7 +88,14 @@ def expected():
     # waitOf: bit 0 of the options polls, so no other bit is an option
     modulus, polls = literals("waitOf", r"options % ")[0], literals("waitOf", r"options % \d+\) ")[0]
     options = {"MAST_NO_WAIT": polls, "MAST_WAIT": (polls + 1) % modulus, "MAST_DEFAULT_OPTIONS": (polls + 1) % modulus}
-    return {**sized, **statuses, **attributes, **options, **run(), "MAST_NO_TIMEOUT": literals("waitOf", r"eqb timeout ")[0]}
+    standard, _ = standard_wait()
+    timeouts = {"MAST_STANDARD_TIMEOUT": standard, "MAST_NO_TIMEOUT": number(re.search(r"eqb timeout (\w+)\) Forever", body("waitOf"))[1])}
+    return {**sized, **statuses, **attributes, **options, **timeouts, **run()}
+
+
+def standard_wait():
+    """The timeout that stands for the standard limit, and that limit in ticks."""
+    return [number(name) for name in re.search(r"eqb timeout (\w+)\) \(Ticks (\w+)\)", body("waitOf")).groups()]
 
 
 def run():
@@ -158,6 +166,9 @@ def main():
     faults += [f"{name} is missing; it is {value}" for name, value in wanted.items() if name not in given]
     both = given.keys() & wanted.keys()
     faults += [f"{n} is {given[n]}, and by the definitions {wanted[n]}" for n in sorted(both) if given[n] != wanted[n]]
+    told, limit = re.findall(r"\b(\d+) ticks(?! left)", header.read_text()), standard_wait()[1]
+    faults += [f"{n} ticks are told of, and the standard limit is {limit}" for n in told if int(n) != limit]
+    faults += ["the ticks of the standard limit are not told of"] if "MAST_STANDARD_TIMEOUT" in wanted and not told else []
     print("\n".join(faults) if faults else f"{len(given)} constants")
     sys.exit(1 if faults else 0)
 

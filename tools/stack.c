@@ -31,7 +31,7 @@ static void run_sections(void)
 {
     static const uint32_t scripts[] = {
         MAST_SCRIPT, 2, 0, 0, MAST_SECTION, 65537, MAST_WAIT, 5, MAST_SET, 0, 7, 0, MAST_STORE, 0, 0, 0,
-        MAST_SCRIPT, 3, 0, 0, MAST_SECTION, 65537, MAST_WAIT, 0, MAST_LOAD, 0, 1, 0, MAST_ADD, 1, 1, 0,
+        MAST_SCRIPT, 3, 0, 0, MAST_SECTION, 65537, MAST_WAIT, MAST_NO_TIMEOUT, MAST_LOAD, 0, 1, 0, MAST_ADD, 1, 1, 0,
     };
     static const uint32_t events[] = {
         MAST_EVENT_TURN, 2, MAST_EVENT_TURN, 3, MAST_EVENT_START, 1, 2, 3, 4, MAST_EVENT_TURN, 2, MAST_EVENT_TICK,

@@ -269,7 +269,13 @@ pub fn obtain(words: &mut Words, caller: u32, id: u32, options: u32, timeout: u3
     leave_sequence(words, caller);
     set(words, task_at(caller) + ANSWER, WAITING);
     set(words, task_at(caller) + WAITS_ON, id);
-    set(words, task_at(caller) + TICKS, timeout);
+    // Bare numbers, so that a wrong constant is not shared with the model.
+    let ticks = match timeout {
+        0 => 500,
+        4_294_967_295 => 0,
+        _ => timeout,
+    };
+    set(words, task_at(caller) + TICKS, ticks);
     answer(words, WAITING, 0)
 }
 

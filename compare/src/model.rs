@@ -83,6 +83,15 @@ pub fn split_attributes(attributes: u32) -> Option<(Class, Order)> {
     }
 }
 
+/// The ticks left of a wait that begins with this timeout, 0 for ever.
+fn ticks_of(timeout: u32) -> u32 {
+    match timeout {
+        STANDARD => STANDARD_LIMIT,
+        FOREVER => 0,
+        ticks => ticks,
+    }
+}
+
 /// The identifier of the slot at `index`, whose number is one more.
 pub fn identifier(generation: u32, index: usize) -> u32 {
     generation * 65536 + index as u32 + 1
@@ -283,7 +292,7 @@ impl Machine {
             return Err(UNSATISFIED);
         }
         self.join_queue(index, caller);
-        self.tasks[caller as usize - 1].state = State::Waiting { id, ticks: timeout };
+        self.tasks[caller as usize - 1].state = State::Waiting { id, ticks: ticks_of(timeout) };
         self.ready.retain(|&task| task != caller);
         Ok(Outcome::Waits)
     }

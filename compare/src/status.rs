@@ -1,4 +1,4 @@
-//! The numbers of documents 01 and 02: statuses, attributes, options and limits.
+//! The numbers of documents 01 and 02: statuses, attributes, options, timeouts and limits.
 
 pub const SUCCESSFUL: u32 = 0;
 pub const INVALID_NAME: u32 = 3;
@@ -23,6 +23,12 @@ pub const BINARY: u32 = 16;
 pub const SIMPLE_BINARY: u32 = 32;
 
 pub const NO_WAIT: u32 = 1;
+
+/// Timeouts that are no number of ticks: the standard limit, and for ever.
+pub const STANDARD: u32 = 0;
+pub const FOREVER: u32 = 4_294_967_295;
+/// The ticks of the standard limit.
+pub const STANDARD_LIMIT: u32 = 500;
 
 pub const MOST_TASKS: usize = 32;
 pub const MOST_SLOTS: usize = 64;

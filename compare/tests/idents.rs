@@ -1,12 +1,14 @@
 //! The comparison of how many slots an ident looks at, with the in-place variant in the library's stead, and
 //! its record.
 
+mod wrong;
+
 use compare::call::{Answer, Call, Manager};
-use compare::fuzz::comparison::{Comparison, Difference};
-use compare::fuzz::{cases, damage, sequence};
+use compare::fuzz::cases;
 use compare::inplace::agreement::Tested;
 use compare::layout::{set_word, slot_at, word, LENGTH, LIVE, NAME, SLOTS, WORDS};
 use compare::record::Recorder;
+use wrong::random_parts;
 
 /// What an ident of this name answered and counted, spoiled.
 type Spoil = fn(tables: &mut [u8], name: u32, answer: Answer, looked: u32) -> (Answer, u32);
@@ -88,14 +90,6 @@ const WRONG: [(&str, Spoil); 12] = [
         _ => (answer, looked),
     }),
 ];
-
-fn random_parts(subject: &mut dyn Manager) -> Result<(), Box<Difference>> {
-    let mut comparison = Comparison::new(subject);
-    (0..50).try_for_each(|seed| {
-        let machine = sequence::run(&mut comparison, seed)?;
-        damage::at_random(&mut comparison, seed, &machine)
-    })
-}
 
 #[test]
 fn wrong_counts_are_found_at_random() {

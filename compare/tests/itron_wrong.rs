@@ -10,7 +10,7 @@ use compare::itron::*;
 use compare::layout::{
     set_word, slot_at, task_at, word, ATTRIBUTES, MAXIMUM, NAME, QUEUED, SLOTS, TASKS, TICKS,
 };
-use spoilt::{coded, found, found_both_ways, right, would, Wrong};
+use spoilt::{coded, found, found_both_ways, found_by_cases, right, would, Wrong};
 
 /// N and S of tables, 0 where these are too short.
 fn tasks_and_slots(tables: &[u8]) -> [u32; 2] {
@@ -167,6 +167,43 @@ fn ticks_counted_otherwise() {
     let said = found_both_ways(|tables, list, service| late(tables, list, service, 1));
     assert!(said.contains(" ticks left: independent "), "{said}");
     found_both_ways(|tables, list, service| late(tables, list, service, u32::MAX));
+}
+
+/// Waits that begin by these calls are stored with other ticks than 0.
+fn for_ever_no_more(calls: impl Fn(Service) -> bool + Copy, ticks: u32) {
+    let said = found_both_ways(found_by_cases(|tables, list, service| {
+        let given = right(tables, list, service);
+        if calls(service) && given.code() == WAITING_CODE {
+            set_word(tables, task_at(service.caller()) + TICKS, ticks);
+        }
+        given
+    }));
+    assert!(said.contains(&format!(" ticks left: independent 0, library {ticks}")), "{said}");
+}
+
+#[test]
+fn waits_for_ever_with_a_limit() {
+    for ticks in [500, u32::MAX] {
+        for_ever_no_more(|service| matches!(service, Service::WaiSem { .. }), ticks);
+        for_ever_no_more(|service| matches!(service, Service::TwaiSem { tmout: -1, .. }), ticks);
+    }
+}
+
+/// A poll that says how long to wait, and not that it does not: timeout 0 is the standard limit.
+#[test]
+fn polls_that_wait() {
+    found_both_ways(found_by_cases(|tables, list, service| match service {
+        Service::PreqSem { caller, semid } => {
+            right(tables, list, Service::TwaiSem { caller, semid, tmout: 500 })
+        }
+        _ => right(tables, list, service),
+    }));
+    found_both_ways(found_by_cases(|tables, list, service| match service {
+        Service::TwaiSem { caller, semid, tmout: 0 } => {
+            right(tables, list, Service::TwaiSem { caller, semid, tmout: 500 })
+        }
+        _ => right(tables, list, service),
+    }));
 }
 
 #[test]

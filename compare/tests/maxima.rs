@@ -1,27 +1,13 @@
 //! Maxima: the in-place variant with one thing done wrong with them, which the comparison and the cases have to find.
 
+mod wrong;
+
 use compare::call::{Answer, Call, Manager};
-use compare::fuzz::comparison::{Comparison, Difference};
-use compare::fuzz::{cases, damage, sequence};
+use compare::fuzz::cases;
 use compare::inplace::agreement::Tested;
 use compare::layout::{read_with_maxima_mended, set_word, slot_at, word, COUNT, MAXIMUM, QUEUED};
 use compare::record::Recorder;
-
-/// Serves a call with one thing wrong.
-type Serve = fn(tables: &mut [u8], call: &Call) -> Answer;
-
-struct Wrong(Serve);
-
-impl Manager for Wrong {
-    fn call(&mut self, tables: &mut [u8], call: &Call) -> Answer {
-        (self.0)(tables, call)
-    }
-
-    fn ident_looked(&mut self, tables: &mut [u8], name: u32) -> (Answer, u32) {
-        let (_, looked) = Tested.ident_looked(tables, name);
-        ((self.0)(tables, &Call::Ident { name }), looked)
-    }
-}
+use wrong::{random_parts, Serve, Wrong};
 
 /// The first word of the slot that an identifier names.
 fn slot_of(id: u32) -> usize {
@@ -156,14 +142,6 @@ const WRONG: [(&str, Serve); 14] = [
         answer
     }),
 ];
-
-fn random_parts(subject: &mut dyn Manager) -> Result<(), Box<Difference>> {
-    let mut comparison = Comparison::new(subject);
-    (0..50).try_for_each(|seed| {
-        let machine = sequence::run(&mut comparison, seed)?;
-        damage::at_random(&mut comparison, seed, &machine)
-    })
-}
 
 #[test]
 fn wrong_maxima_are_found_at_random() {

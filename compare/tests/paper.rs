@@ -58,7 +58,7 @@ fn layout_has_its_length_and_byte_order() {
     assert_eq!(waits, [6, 100, 65537, 5]);
     let mut equals = equal_tables();
     assert_eq!(sequence(&equals), [4, 1, 4, 2, 3, 0, 0]);
-    Model.call(&mut equals, &Call::Obtain { caller: 4, id: 65537, options: 0, timeout: 0 });
+    Model.call(&mut equals, &Call::Obtain { caller: 4, id: 65537, options: 0, timeout: u32::MAX });
     assert_eq!(sequence(&equals), [3, 1, 2, 3, 0, 0, 0]);
 }
 

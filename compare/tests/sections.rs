@@ -35,6 +35,10 @@ fn moves(text: &str, status: &str, wanted: &[&str]) {
     assert_eq!(lines(text, &["place", "grants"]), wanted, "for\n{text}");
 }
 
+/// The heads of sections that wait for ever.
+const FIRST: &str = "65537 0 4294967295";
+const SECOND: &str = "65538 0 4294967295";
+
 /// A script of sections that each take one step.
 fn script(task: u32, sections: &[&str]) -> String {
     let sections: String =
@@ -97,7 +101,7 @@ fn an_empty_list_of_events_changes_nothing() {
 #[test]
 fn the_mission() {
     // The semaphore of two writers is deleted, and its slot goes to one with room for two.
-    let writers = script(1, &["65537 0 0"]) + &script(2, &["65537 0 0"]);
+    let writers = script(1, &[FIRST]) + &script(2, &[FIRST]);
     let events = "run\ndelete 3 65537\ncreate 3 79 2 0 2\nturn 1\nturn 2\nturn 1\nturn 2\n";
     moves(&(writers.clone() + events), "0", &["place 1 1 0", "place 2 1 0", "grants"]);
     let after = run(&input(&(writers + events)));
@@ -108,8 +112,8 @@ fn the_mission() {
 #[test]
 fn two_writers_take_turns() {
     let text = "cell 65537 0\n\
-script 1\nsection 65537 0 0\nload 0 0\nset 1 1\nadd 1 0\nstore 0 0\nend\n\
-script 2\nsection 65537 0 0\nload 0 0\nset 1 10\nadd 1 0\nstore 0 0\nend\nrun\n";
+script 1\nsection 65537 0 4294967295\nload 0 0\nset 1 1\nadd 1 0\nstore 0 0\nend\n\
+script 2\nsection 65537 0 4294967295\nload 0 0\nset 1 10\nadd 1 0\nstore 0 0\nend\nrun\n";
     // Whoever enters first: each turn of the other is lost until the release.
     for (first, second) in [(1, 2), (2, 1)] {
         let events = format!("turn {first}\nturn {second}\n").repeat(6);
@@ -122,30 +126,31 @@ script 2\nsection 65537 0 0\nload 0 0\nset 1 10\nadd 1 0\nstore 0 0\nend\nrun\n"
 
 #[test]
 fn a_grant_moves_the_place_at_the_event_of_the_release() {
-    let scripts = script(1, &["65537 0 0"]) + &script(2, &["65537 0 0"]);
+    let scripts = script(1, &[FIRST]) + &script(2, &[FIRST]);
     let waits = scripts.clone() + "run\nturn 1\nturn 2\nturn 2\nturn 1\n";
     moves(&waits, "0", &["place 1 0 2", "place 2 0 0", "grants 1:0"]);
     moves(&(waits + "turn 1\n"), "0", &["place 1 1 0", "place 2 0 1", "grants 1:0 2:0"]);
     // A release by someone else does the same.
-    let other = script(1, &["65537 0 0"]) + "run\nobtain 3 65537 0 0\nturn 1\n";
+    let other = script(1, &[FIRST]) + "run\nobtain 3 65537 0 0\nturn 1\n";
     moves(&other, "0", &["place 1 0 0", "grants"]);
     moves(&(other + "release 3 65537\n"), "0", &["place 1 0 1", "grants 1:0"]);
     // Without steps the release comes next.
-    let empty = "script 1\nsection 65537 0 0\nend\nrun\nobtain 3 65537 0 0\nturn 1\nrelease 3 65537\n";
+    let empty =
+        "script 1\nsection 65537 0 4294967295\nend\nrun\nobtain 3 65537 0 0\nturn 1\nrelease 3 65537\n";
     moves(empty, "0", &["place 1 0 1", "grants 1:0"]);
     moves(&format!("{empty}turn 1\n"), "0", &["place 1 1 0", "grants 1:0"]);
 }
 
 #[test]
 fn waiting_is_no_grant() {
-    let text = script(1, &["65537 0 0"]) + "run\nobtain 3 65537 0 0\nturn 1\nturn 1\nturn 1\n";
+    let text = script(1, &[FIRST]) + "run\nobtain 3 65537 0 0\nturn 1\nturn 1\nturn 1\n";
     moves(&text, "0", &["place 1 0 0", "grants"]);
     assert_eq!(lines(&text, &["open", "serial"]), ["open", "serial yes"]);
 }
 
 #[test]
 fn a_skip_comes_at_the_event_itself() {
-    let two = script(1, &["65537 0 2", "65538 0 0"]);
+    let two = script(1, &["65537 0 2", SECOND]);
     let held = two.clone() + "run\nobtain 3 65537 0 0\nturn 1\n";
     // The wait times out in the middle: at the second tick, and not at the next turn.
     moves(&(held.clone() + "tick\n"), "0", &["place 1 0 0", "grants"]);
@@ -156,9 +161,28 @@ fn a_skip_comes_at_the_event_itself() {
     moves(&(held + "flush 0 65537\n"), "0", &["place 1 1 0", "grants"]);
     // A refused obtain skips at its own turn: 4 for a deleted semaphore, 13 with NO_WAIT.
     moves(&(two + "run\ndelete 3 65537\nturn 1\n"), "0", &["place 1 1 0", "grants"]);
-    let poll = script(1, &["65537 1 0", "65538 0 0"]) + "run\nobtain 3 65537 0 0\nturn 1\n";
+    let poll = script(1, &["65537 1 0", SECOND]) + "run\nobtain 3 65537 0 0\nturn 1\n";
     moves(&poll, "0", &["place 1 1 0", "grants"]);
     moves(&(poll + "turn 1\n"), "0", &["place 1 1 1", "grants 1:1"]);
+}
+
+#[test]
+fn a_section_of_timeout_0_is_skipped_at_the_500th_tick() {
+    for options in [0, 2, 4_294_967_294u32] {
+        let scripts = script(1, &[&format!("65537 {options} 0"), SECOND]) + &script(2, &[FIRST]);
+        let held = scripts + "run\nobtain 3 65537 0 0\nturn 1\nturn 2\n";
+        let after = |ticks: usize, call: &str| held.clone() + &"tick\n".repeat(ticks) + call;
+        moves(&after(499, ""), "0", &["place 1 0 0", "place 2 0 0", "grants"]);
+        moves(&after(500, ""), "0", &["place 1 1 0", "place 2 0 0", "grants"]);
+        // The more urgent task is granted as long as it waits; the other one waits for ever.
+        let release = "release 3 65537\n";
+        moves(&after(499, release), "0", &["place 1 0 1", "place 2 0 0", "grants 1:0"]);
+        moves(&after(600, release), "0", &["place 1 1 0", "place 2 0 1", "grants 2:0"]);
+    }
+    for poll in ["65537 1 0", "65537 3 4294967295"] {
+        let text = script(1, &[poll, SECOND]) + "run\nobtain 3 65537 0 0\nturn 1\n";
+        moves(&text, "0", &["place 1 1 0", "grants"]);
+    }
 }
 
 #[test]
@@ -179,20 +203,20 @@ obtain 3 65537 0 0\nturn 1\ntick\nrelease 3 65537\nturn 1\nturn 1\n";
 
 #[test]
 fn two_sections_of_one_identifier() {
-    let text = script(1, &["65537 0 0", "65537 0 0"]) + "run\n" + &"turn 1\n".repeat(6);
+    let text = script(1, &[FIRST, FIRST]) + "run\n" + &"turn 1\n".repeat(6);
     moves(&text, "0", &["place 1 2 0", "grants 1:0 1:1"]);
 }
 
 #[test]
 fn a_nested_obtain_by_another_takes_two_releases() {
-    let held = script(1, &["65537 0 0"]) + "run\nobtain 3 65537 0 0\nobtain 3 65537 0 0\nturn 1\n";
+    let held = script(1, &[FIRST]) + "run\nobtain 3 65537 0 0\nobtain 3 65537 0 0\nturn 1\n";
     moves(&(held.clone() + "release 3 65537\n"), "0", &["place 1 0 0", "grants"]);
     moves(&(held + "release 3 65537\nrelease 3 65537\n"), "0", &["place 1 0 1", "grants 1:0"]);
 }
 
 #[test]
 fn others_cannot_take_a_section_away() {
-    let open = script(1, &["65537 0 0"]) + "run\nturn 1\n";
+    let open = script(1, &[FIRST]) + "run\nturn 1\n";
     for call in ["release 3 65537", "release 0 65537", "delete 3 65537", "flush 0 65537", "tick"] {
         let text = format!("{open}{call}\nturn 1\nturn 1\n");
         moves(&text, "0", &["place 1 1 0", "grants 1:0"]);
@@ -241,8 +265,8 @@ script 2\nsection 65537 0 0\nload 0 0\nset 1 1\nadd 1 0\nstore 0 0\nend\nrun\n";
 
 #[test]
 fn a_run_goes_on_from_what_the_events_before_left() {
-    let text = script(1, &["65537 0 3", "65538 0 0"])
-        + &script(2, &["65537 0 0"])
+    let text = script(1, &["65537 0 3", SECOND])
+        + &script(2, &[FIRST])
         + "run\nturn 2\nturn 1\ntick\nturn 2\nturn 2\nturn 1\nturn 1\nturn 1\nturn 1\n";
     let whole = input(&text);
     let mut running = Running::new(&whole);
@@ -267,7 +291,7 @@ fn refused(input: &Input, status: u32, why: &str) {
 
 /// A run that is fine; 65539 is owned, 65540 is a counting semaphore, and task 3 waits there.
 const FINE: &str =
-    "create 1 79 0 16 1\ncreate 1 80 0 0 1\nobtain 3 65540 0 0\ncell 65537 5\ncell 65538 6\n\
+    "create 1 79 0 16 1\ncreate 1 80 0 0 1\nobtain 3 65540 0 4294967295\ncell 65537 5\ncell 65538 6\n\
 local 1 0 4\nscript 1\nsection 65537 0 0\nload 0 7\nend\nrun\nturn 1\n";
 
 #[test]
@@ -334,7 +358,7 @@ fn who_may_call() {
 
 #[test]
 fn order_of_the_refusals() {
-    let text = "create 1 79 0 0 1\nobtain 3 65539 0 0\nscript 3\nrun\nflush 3 65539\nturn 1\n";
+    let text = "create 1 79 0 0 1\nobtain 3 65539 0 4294967295\nscript 3\nrun\nflush 3 65539\nturn 1\n";
     refused(&input(text), 4, "waiting, calling, and a turn without a script");
     refused(&input(&format!("{text}turn")), 11, "an event of no kind at the end beats them");
     let mut disagrees = input(&format!("{text}turn"));
@@ -347,8 +371,7 @@ fn order_of_the_refusals() {
 
 #[test]
 fn many_scripts() {
-    let scripts =
-        |count: u32| -> String { (1..=count).map(|task| script(task, &["65537 0 0"])).collect() };
+    let scripts = |count: u32| -> String { (1..=count).map(|task| script(task, &[FIRST])).collect() };
     let session = format!("start 1{}\ncreate 1 77 1 16 1\n", " 5".repeat(32));
     let turns: String = (1..=32).map(|task| format!("turn {task}\n")).collect();
     let text = |count, events: &str| format!("{session}{}run\n{events}", scripts(count));

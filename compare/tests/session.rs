@@ -13,9 +13,9 @@ fn session(input: &[u8], wanted: &str) {
     assert_eq!(output, wanted, "for {:?}", String::from_utf8_lossy(input));
 }
 
-const WORKED: &[u8] = b"start 4 10 20\ncreate 1 77 1 20 1\nobtain 2 65537 0 0\nobtain 1 65537 0 3\n\
-tick\nrelease 2 65537\ndelete 2 65537\nrelease 1 65537\ndelete 1 65537\nobtain 1 65537 0 0\n\
-create 1 78 2 0 4294967295\n";
+const WORKED: &[u8] = b"start 4 10 20\ncreate 1 77 1 20 1\nobtain 2 65537 0 4294967295\n\
+obtain 1 65537 0 3\ntick\nrelease 2 65537\ndelete 2 65537\nrelease 1 65537\ndelete 1 65537\n\
+obtain 1 65537 0 4294967295\ncreate 1 78 2 0 4294967295\n";
 const WORKED_ANSWERS: &str = "0 0 1\n0 65537 1\n0 0 1\n100 0 2\n0 0 2\n0 0 1\n12 0 1\n0 0 1\n0 0 1\n\
 4 0 1\n0 131073 1\n";
 
@@ -28,6 +28,25 @@ fn worked_session_of_the_paper() {
 fn equals_of_the_paper() {
     let input = b"start 1 10 10\ncreate 1 77 0 0 4294967295\nobtain 1 65537 0 0\nrelease 2 65537\n";
     session(input, "0 0 1\n0 65537 1\n100 0 2\n0 0 2\n");
+}
+
+/// Task 1 waits with this timeout; so many ticks later task 2 asks who is next.
+fn next_after(timeout: &str, ticks: usize) -> u8 {
+    let begun = format!("start 1 10 20\ncreate 2 77 0 0 9\nobtain 1 65537 0 {timeout}\n");
+    let input = begun + &"tick\n".repeat(ticks) + "ident 77";
+    let output = run_session(input.as_bytes());
+    assert_eq!(output, session_of_the_model(input.as_bytes()));
+    let last = output.strip_suffix(b"\n").and_then(|answers| answers.last());
+    last.expect("the last line has an answer") - b'0'
+}
+
+#[test]
+fn timeouts_of_a_session() {
+    assert_eq!([499, 500].map(|ticks| next_after("0", ticks)), [2, 1]);
+    assert_eq!([499, 500].map(|ticks| next_after("500", ticks)), [2, 1]);
+    assert_eq!([0, 1].map(|ticks| next_after("1", ticks)), [2, 1]);
+    assert_eq!([600, 5000].map(|ticks| next_after("4294967295", ticks)), [2, 2]);
+    assert_eq!([600, 5000].map(|ticks| next_after("4294967294", ticks)), [2, 2]);
 }
 
 /// Each session of examples/ has the answers beside it, of the in-place variant and of the model.
@@ -168,6 +187,17 @@ fn session_of_the_model(input: &[u8]) -> Vec<u8> {
         }
     }
     output
+}
+
+#[test]
+fn the_standard_limit_runs_out_in_long_sessions() {
+    let limit = "tick\n".repeat(499);
+    let long = (0..40).map(|seed| random_session(seed, 800));
+    let bursts = long.filter(|input| {
+        assert_eq!(run_session(input), session_of_the_model(input));
+        String::from_utf8_lossy(input).contains(&limit)
+    });
+    assert!(bursts.count() > 5);
 }
 
 #[test]

@@ -56,8 +56,8 @@ fn mixed() -> Vec<u8> {
         Call::create(1, 1, 0, 20),
         Call::create(1, 0xffff_ffff, 0, 0),
         Call::create(1, 3, 0xffff_ffff, 4),
-        wait(3, 65537, 0),
-        wait(2, 65537, 0xffff_ffff),
+        wait(3, 65537, 0xffff_ffff),
+        wait(2, 65537, 0xffff_fffe),
         wait(4, 65538, 1),
         wait(5, 65538, 2),
         wait(1, 65538, 9),
@@ -147,7 +147,7 @@ fn the_mixed_bodies() {
     let waits = |priority, id, ticks| [priority, 100, id, ticks];
     let wanted = [
         waits(5, 65538, 8),
-        waits(6, 65537, 0xffff_fffe),
+        waits(6, 65537, 0xffff_fffd),
         waits(6, 65537, 0),
         [7, 6, 0, 0],
         [7, 0, 0, 0],
@@ -163,6 +163,19 @@ fn the_mixed_bodies() {
     assert_eq!(slots, wanted.as_flattened());
     assert_eq!(queues, [2, 3, 2, 1, 1, 0, 0]);
     assert_eq!(ready, [6, 4, 5]);
+}
+
+/// A file's ticks left are no timeout: 0 is for ever, and every other number counts down.
+#[test]
+fn ticks_left_of_a_file() {
+    for (ticks, after) in [(0, 0), (2, 1), (500, 499), (0xffff_ffff, 0xffff_fffe)] {
+        for subject in [&mut Model as &mut dyn Manager, &mut Tested] {
+            let mut tables = vec![0; LENGTH];
+            assert_eq!(load(&mut tables, &edited(&[(21, ticks)])), Answer::new(0, 0, 1));
+            assert_eq!(subject.call(&mut tables, &Call::Tick), Answer::new(0, 0, 1));
+            assert_eq!(word(&tables, layout::task_at(2) + layout::TICKS), after);
+        }
+    }
 }
 
 #[test]
@@ -337,8 +350,11 @@ fn queues_and_the_ready_sequence() {
 #[test]
 fn numbers_of_tasks_and_slots() {
     let (ready, waiting, slot) = (14, 18, 22);
-    for edit in [(ready, 255), (ready + 1, 13), (waiting + 3, 0), (slot + 2, 1), (slot + 3, 4)] {
+    for edit in [(ready, 255), (ready + 1, 13), (slot + 2, 1), (slot + 3, 4)] {
         accepted(&edited(&[edit]));
+    }
+    for ticks in [0, 1, 499, 500, 501, 0xffff_fffe, 0xffff_ffff] {
+        accepted(&edited(&[(waiting + 3, ticks)]));
     }
     for maximum in [1, 2, 0xffff_ffff] {
         accepted(&edited(&[(slot + 7, maximum)]));

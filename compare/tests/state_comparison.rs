@@ -2,7 +2,10 @@
 
 use compare::call::{Answer, Call, Manager};
 use compare::inplace::agreement::Tested;
-use compare::layout::{set_word, slot_at, word, ATTRIBUTES, COUNT, LENGTH, LIVE, MAXIMUM, SLOTS};
+use compare::layout::{
+    set_word, slot_at, task_at, word, ANSWER, ATTRIBUTES, COUNT, LENGTH, LIVE, MAXIMUM, SLOTS, TASKS,
+    TICKS,
+};
 use compare::state::comparison::{Compared, Comparison};
 use compare::state::read::only_maxima_are_wrong;
 use compare::state::round::round;
@@ -232,6 +235,25 @@ fn a_free_slot_with_a_maximum_after_edition_1_is_found() {
         answer
     };
     is_found(Wrong { load, ..RIGHT }, "maximum: independent 0, library 1");
+}
+
+/// A load that takes a task's ticks left for a timeout.
+fn load_with_ticks(tables: &mut [u8], file: &[u8], of: u32, ticks: u32) -> Answer {
+    let answer = Tested.load(tables, file);
+    if answer.status == 0 {
+        let waits = |at: &usize| word(tables, at + ANSWER) == 100 && word(tables, at + TICKS) == of;
+        let tasks: Vec<usize> = (1..=word(tables, TASKS)).map(task_at).filter(waits).collect();
+        tasks.iter().for_each(|at| set_word(tables, at + TICKS, ticks));
+    }
+    answer
+}
+
+#[test]
+fn ticks_taken_for_timeouts_are_found() {
+    let load = |tables: &mut [u8], file: &[u8]| load_with_ticks(tables, file, 0, 500);
+    is_found(Wrong { load, ..RIGHT }, " ticks left: independent 0, library 500");
+    let load = |tables: &mut [u8], file: &[u8]| load_with_ticks(tables, file, u32::MAX, 0);
+    is_found(Wrong { load, ..RIGHT }, " ticks left: independent 4294967295, library 0");
 }
 
 fn is_old(file: &[u8]) -> bool {

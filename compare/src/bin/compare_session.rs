@@ -12,7 +12,10 @@ use compare::session::lines::random_session;
 use compare::session::run_session;
 
 const USAGE: &str = "usage: compare_session PROGRAM [SECONDS [SEED]]";
+/// Lines of a session, and of every sixteenth, in which waits of the standard limit run out.
 const LINES: usize = 200;
+const LONG: usize = 800;
+const LONG_EVERY: u64 = 16;
 /// How long an answer to a single line may take before it counts as withheld.
 const PATIENCE: Duration = Duration::from_secs(10);
 
@@ -93,7 +96,12 @@ fn run(program: &str, seconds: u64, first_seed: u64) -> io::Result<bool> {
     let mut sessions = 0;
     while sessions < 20 || begun.elapsed() < Duration::from_secs(seconds) {
         let seed = first_seed.wrapping_add(sessions);
-        let input = random_session(seed, if sessions == 0 { 0 } else { LINES });
+        let lines = match sessions % LONG_EVERY {
+            _ if sessions == 0 => 0,
+            0 => LONG,
+            _ => LINES,
+        };
+        let input = random_session(seed, lines);
         let wanted = run_session(&input);
         let found = output_of(program, &input, seed)?;
         sessions += 1;
@@ -102,7 +110,9 @@ fn run(program: &str, seconds: u64, first_seed: u64) -> io::Result<bool> {
             return Ok(false);
         }
     }
-    println!("{sessions} sessions of {LINES} lines from seed {first_seed}, no difference");
+    println!(
+        "{sessions} sessions of {LINES} lines, every {LONG_EVERY}th of {LONG}, from seed {first_seed}, no difference"
+    );
     Ok(true)
 }
 

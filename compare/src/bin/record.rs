@@ -35,7 +35,8 @@ fn record_classic(recorder: &mut FileRecorder, calls: u64, seed: u64) -> Result<
     let first = cases::run(recorder)?;
     let mut comparison = Comparison::new(recorder);
     let mut seeds = seed..;
-    while comparison.calls + first < calls {
+    // However few are wanted, one sequence is among them.
+    while comparison.calls == 0 || comparison.calls + first < calls {
         let seed = seeds.next().ok_or("no seed is left")?;
         let machine = sequence::run(&mut comparison, seed).map_err(said)?;
         damage::at_random(&mut comparison, seed, &machine).map_err(said)?;

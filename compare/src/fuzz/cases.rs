@@ -2,12 +2,14 @@
 
 mod idents;
 mod maxima;
+mod timeouts;
 
 use std::fmt::Debug;
 
 use crate::call::{Answer, Call, Manager};
 use crate::fuzz::lent::Lent;
 use crate::layout::{self, LENGTH};
+use crate::status::FOREVER;
 
 /// The tables of one case, and the first answer that was not the rules'.
 struct Case<'a> {
@@ -83,6 +85,15 @@ impl Case<'_> {
     fn task(&mut self, task: u32, answer: u32, next: u32) {
         self.expect(Call::Task { task }, 0, answer, next);
     }
+
+    /// The tables have this number in this word.
+    fn holds(&mut self, at: usize, wanted: u32) {
+        let found = layout::word(self.tables.bytes(), at);
+        if found != wanted && self.failed.is_none() {
+            let name = layout::word_name(at);
+            self.failed = Some(format!("{name}: the rules say {wanted}, got {found}"));
+        }
+    }
 }
 
 /// A case's name and what runs it.
@@ -115,14 +126,14 @@ const CASES: [Named; 20] = [
         case.start(1, &[5, 5, 5, 9], 1);
         case.create(1, 9, 0, 0, [0, 65537, 1]);
         for (waits, next) in [(1, 2), (2, 3), (3, 1), (1, 2)] {
-            case.obtain(waits, 65537, 0, [100, 0, next]);
+            case.obtain(waits, 65537, FOREVER, [100, 0, next]);
             case.interrupt(65537, next);
         }
         // 2, 3, 1 are ready in this order: two of them leave, and the last is next.
-        case.obtain(3, 65537, 0, [100, 0, 2]);
-        case.obtain(2, 65537, 0, [100, 0, 1]);
-        case.obtain(1, 65537, 0, [100, 0, 4]);
-        case.obtain(4, 65537, 0, [100, 0, 0]);
+        case.obtain(3, 65537, FOREVER, [100, 0, 2]);
+        case.obtain(2, 65537, FOREVER, [100, 0, 1]);
+        case.obtain(1, 65537, FOREVER, [100, 0, 4]);
+        case.obtain(4, 65537, FOREVER, [100, 0, 0]);
         for next in [3, 3, 3, 3] {
             case.interrupt(65537, next);
         }
@@ -139,7 +150,7 @@ const CASES: [Named; 20] = [
         case.tick(5);
         case.tick(1);
         for (waits, next) in [(1, 2), (2, 3), (3, 4), (4, 5)] {
-            case.obtain(waits, 65537, 0, [100, 0, next]);
+            case.obtain(waits, 65537, FOREVER, [100, 0, next]);
         }
     }),
     ("ticks wake one after the other", |case| {
@@ -154,11 +165,11 @@ const CASES: [Named; 20] = [
         case.start(1, &[5, 5, 5, 9], 1);
         case.create(4, 9, 0, 4, [0, 65537, 1]);
         for (waits, next) in [(3, 1), (1, 2), (2, 4)] {
-            case.obtain(waits, 65537, 0, [100, 0, next]);
+            case.obtain(waits, 65537, FOREVER, [100, 0, next]);
         }
         case.expect(Call::Flush { caller: 4, id: 65537 }, 0, 0, 3);
         for (waits, next) in [(3, 1), (1, 2), (2, 4)] {
-            case.obtain(waits, 65537, 0, [100, 0, next]);
+            case.obtain(waits, 65537, FOREVER, [100, 0, next]);
         }
     }),
     ("a delete wakes equals by their queue", |case| {
@@ -166,27 +177,27 @@ const CASES: [Named; 20] = [
         case.create(4, 9, 0, 0, [0, 65537, 1]);
         case.create(4, 9, 0, 0, [0, 65538, 1]);
         for (waits, next) in [(2, 1), (3, 1), (1, 4)] {
-            case.obtain(waits, 65537, 0, [100, 0, next]);
+            case.obtain(waits, 65537, FOREVER, [100, 0, next]);
         }
         case.expect(Call::Delete { caller: 4, id: 65537 }, 0, 0, 2);
         for (waits, next) in [(2, 3), (3, 1), (1, 4)] {
-            case.obtain(waits, 65538, 0, [100, 0, next]);
+            case.obtain(waits, 65538, FOREVER, [100, 0, next]);
         }
     }),
     ("what begins or ends no wait moves nobody", |case| {
         case.start(3, &[5, 5, 9], 1);
         case.create(1, 9, 0, 0, [0, 65537, 1]);
         case.create(1, 8, 1, 16, [0, 65538, 1]);
-        case.obtain(1, 65537, 0, [100, 0, 2]);
+        case.obtain(1, 65537, FOREVER, [100, 0, 2]);
         case.interrupt(65537, 2);
         // A poll that fails, one that does not, nesting, releases, counts, refusals.
         case.expect(Call::Obtain { caller: 2, id: 65537, options: 1, timeout: 0 }, 13, 0, 2);
         case.expect(Call::Obtain { caller: 2, id: 65538, options: 1, timeout: 0 }, 0, 0, 2);
-        case.obtain(2, 65538, 0, [0, 0, 2]);
+        case.obtain(2, 65538, FOREVER, [0, 0, 2]);
         case.release(2, 65538, [0, 0, 2]);
         case.release(2, 65538, [0, 0, 2]);
         case.release(2, 65537, [0, 0, 2]);
-        case.obtain(2, 65537, 0, [0, 0, 2]);
+        case.obtain(2, 65537, FOREVER, [0, 0, 2]);
         case.create(2, 7, 0, 0, [0, 65539, 2]);
         case.expect(Call::Flush { caller: 2, id: 65539 }, 0, 0, 2);
         case.expect(Call::Delete { caller: 2, id: 65539 }, 0, 0, 2);
@@ -194,7 +205,7 @@ const CASES: [Named; 20] = [
         case.release(2, 65539, [4, 0, 2]);
         case.tick(2);
         case.task(2, 0, 2);
-        case.obtain(2, 65537, 0, [100, 0, 1]);
+        case.obtain(2, 65537, FOREVER, [100, 0, 1]);
     }),
     ("refusals of create", |case| {
         case.start(2, &[1], 1);
@@ -220,13 +231,13 @@ const CASES: [Named; 20] = [
         // The count goes up: nobody is left in the queue to be woken twice.
         case.release(2, 65537, [0, 0, 1]);
         case.task(1, 6, 1);
-        case.obtain(2, 65537, 0, [0, 0, 1]);
+        case.obtain(2, 65537, FOREVER, [0, 0, 1]);
     }),
     ("equal priorities by arrival", |case| {
         case.start(1, &[7, 7, 7, 3], 4);
         case.create(4, 9, 0, 4, [0, 65537, 4]);
         for caller in [3, 1, 2] {
-            case.obtain(caller, 65537, 0, [100, 0, 4]);
+            case.obtain(caller, 65537, FOREVER, [100, 0, 4]);
         }
         for woken in [3, 1, 2] {
             case.release(0, 65537, [0, 0, 4]);
@@ -236,9 +247,9 @@ const CASES: [Named; 20] = [
     ("FIFO ignores priority", |case| {
         case.start(1, &[9, 1, 5, 3], 2);
         case.create(4, 9, 0, 0, [0, 65537, 2]);
-        case.obtain(1, 65537, 0, [100, 0, 2]);
-        case.obtain(2, 65537, 0, [100, 0, 4]);
-        case.obtain(3, 65537, 0, [100, 0, 4]);
+        case.obtain(1, 65537, FOREVER, [100, 0, 2]);
+        case.obtain(2, 65537, FOREVER, [100, 0, 4]);
+        case.obtain(3, 65537, FOREVER, [100, 0, 4]);
         case.release(0, 65537, [0, 0, 4]);
         case.task(1, 0, 4);
         case.release(0, 65537, [0, 0, 2]);
@@ -247,8 +258,8 @@ const CASES: [Named; 20] = [
     ("a simple binary semaphore makes even its holder wait", |case| {
         case.start(1, &[1, 2], 1);
         case.create(1, 9, 1, 32, [0, 65537, 1]);
-        case.obtain(1, 65537, 0, [0, 0, 1]);
-        case.obtain(1, 65537, 0, [100, 0, 2]);
+        case.obtain(1, 65537, FOREVER, [0, 0, 1]);
+        case.obtain(1, 65537, FOREVER, [100, 0, 2]);
         case.release(2, 65537, [0, 0, 1]);
         case.task(1, 0, 1);
     }),
@@ -256,9 +267,9 @@ const CASES: [Named; 20] = [
         case.start(1, &[1], 1);
         case.create(1, 9, 0, 16, [0, 65537, 1]);
         layout::set_word(case.tables.bytes_mut(), layout::slot_at(0) + layout::NEST, u32::MAX);
-        case.obtain(1, 65537, 0, [13, 0, 1]);
+        case.obtain(1, 65537, FOREVER, [13, 0, 1]);
         case.release(1, 65537, [0, 0, 1]);
-        case.obtain(1, 65537, 0, [0, 0, 1]);
+        case.obtain(1, 65537, FOREVER, [0, 0, 1]);
     }),
     ("a slot retires", |case| {
         case.start(1, &[1], 1);
@@ -286,21 +297,22 @@ const CASES: [Named; 20] = [
 fn worked_session(case: &mut Case) {
     case.start(4, &[10, 20], 1);
     case.create_up_to([1, 77, 1, 20, 1], [0, 65537, 1]);
-    case.obtain(2, 65537, 0, [0, 0, 1]);
+    case.obtain(2, 65537, FOREVER, [0, 0, 1]);
     case.obtain(1, 65537, 3, [100, 0, 2]);
     case.expect(Call::Tick, 0, 0, 2);
     case.release(2, 65537, [0, 0, 1]);
     case.expect(Call::Delete { caller: 2, id: 65537 }, 12, 0, 1);
     case.release(1, 65537, [0, 0, 1]);
     case.expect(Call::Delete { caller: 1, id: 65537 }, 0, 0, 1);
-    case.obtain(1, 65537, 0, [4, 0, 1]);
+    case.obtain(1, 65537, FOREVER, [4, 0, 1]);
     case.create_up_to([1, 78, 2, 0, u32::MAX], [0, 131073, 1]);
 }
 
 /// Runs every case; how many calls were made, or the first answer that is not the rules'.
 pub fn run(subject: &mut dyn Manager) -> Result<u64, String> {
     let mut done = 0;
-    for (name, run_case) in CASES.into_iter().chain(idents::CASES).chain(maxima::CASES) {
+    let of_parts = idents::CASES.into_iter().chain(maxima::CASES).chain(timeouts::CASES);
+    for (name, run_case) in CASES.into_iter().chain(of_parts) {
         let mut case = Case { subject, tables: Lent::new(&[0; LENGTH], 0), done: 0, failed: None };
         run_case(&mut case);
         if let Some(failure) = case.failed {

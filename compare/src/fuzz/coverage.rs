@@ -3,8 +3,10 @@
 mod equals;
 mod maxima;
 mod searches;
+mod timeouts;
 
 pub use equals::next_passes_a_lower_equal;
+pub use timeouts::Waits;
 
 use std::collections::BTreeMap;
 
@@ -66,6 +68,7 @@ const HAPPENINGS: [&str; 32] = [
 pub struct Coverage {
     statuses: BTreeMap<(usize, u32), u64>,
     happenings: BTreeMap<&'static str, u64>,
+    waits: Waits,
 }
 
 impl Coverage {
@@ -86,6 +89,7 @@ impl Coverage {
         self.happened("damage broke the agreement", machine.is_none());
         if let Some(machine) = machine {
             self.damaged_in_agreement(machine);
+            self.damaged_ticks(machine);
         } else if let Some(machine) = layout::read_with_sequence_mended(bytes) {
             let places: Vec<u32> = (SEQUENCE..WORDS).map(|at| word(bytes, at)).collect();
             self.damaged_sequence(&machine, word(bytes, READY), &places);
@@ -122,6 +126,7 @@ impl Coverage {
             Call::Start { .. } => {}
         }
         self.saw_equals(before, call, answer, after);
+        self.saw_waits(before, call, answer, after);
     }
 
     fn saw_create(&mut self, before: &Machine, caller: u32, answer: Answer) {
@@ -219,7 +224,7 @@ impl Coverage {
         let foreign = self.statuses.keys().filter(|(kind, status)| !STATUSES[*kind].contains(status));
         gaps.extend(foreign.map(|(kind, status)| format!("{} answered {status}", KINDS[*kind])));
         let of_parts = equals::wanted().chain(searches::wanted()).chain(maxima::wanted());
-        let wanted = HAPPENINGS.into_iter().chain(of_parts);
+        let wanted = HAPPENINGS.into_iter().chain(of_parts).chain(timeouts::wanted());
         let missing = wanted.filter(|name| !self.happenings.contains_key(name));
         gaps.extend(missing.map(|name| format!("never seen: {name}")));
         gaps

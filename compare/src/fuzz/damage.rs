@@ -2,12 +2,13 @@
 
 use crate::call::{Answer, Call, Manager, KINDS};
 use crate::fuzz::comparison::{Comparison, Difference, Expected, Place};
-use crate::fuzz::generate::Plan;
+use crate::fuzz::generate::{Plan, TICKS_LEFT};
 use crate::fuzz::lent::Lent;
 use crate::fuzz::mutate::mutate;
 use crate::fuzz::rng::Rng;
 use crate::layout::{self, *};
-use crate::model::Machine;
+use crate::model::{Machine, State};
+use crate::status::{FOREVER, STANDARD};
 
 type Compared = Result<(), Box<Difference>>;
 
@@ -84,7 +85,10 @@ pub fn every_word(comparison: &mut Comparison) -> Compared {
         let mut lent = Lent::new(&layout::write(&machine), base as usize % 4);
         for at in 0..WORDS {
             let place = Place { part: "every word", seed: base, step: at as u64 };
-            let values = values(word(lent.bytes(), at));
+            let mut values = values(word(lent.bytes(), at)).to_vec();
+            if is_ticks(at) {
+                values.extend(TICKS_LEFT);
+            }
             set_to_each(comparison, place, &calls, &mut lent, at, &values)?;
         }
     }
@@ -148,6 +152,11 @@ fn set_to_each(
     }
     set_word(lent.bytes_mut(), at, was);
     Ok(())
+}
+
+/// Whether the word at this index holds a task's ticks left.
+fn is_ticks(at: usize) -> bool {
+    (FIRST_TASK..FIRST_SLOT).contains(&at) && (at - FIRST_TASK) % TASK_WORDS == TICKS
 }
 
 /// Numbers at the ends of the limits, close to what was there, and the same with one byte altered.
@@ -217,11 +226,11 @@ fn equals() -> Machine {
     let made = made_by(&[
         Call::Start { slots: 1, priorities: vec![4; 6] },
         Call::create(1, 9, 0, 0),
-        wait(3, 65537, 0),
-        wait(5, 65537, 0),
-        wait(2, 65537, 0),
+        wait(3, 65537, FOREVER),
+        wait(5, 65537, FOREVER),
+        wait(2, 65537, FOREVER),
         wait(1, 65537, 1),
-        wait(6, 65537, 0),
+        wait(6, 65537, STANDARD),
         Call::Release { caller: 0, id: 65537 },
         Call::Release { caller: 0, id: 65537 },
         Call::Release { caller: 0, id: 65537 },
@@ -237,7 +246,7 @@ fn small() -> Machine {
         Call::create(3, 9, 0, 20),
         Call::create(3, 9, 1, 32),
         wait(1, 65537, 4),
-        wait(2, 65537, 0),
+        wait(2, 65537, FOREVER),
     ])
 }
 
@@ -250,7 +259,9 @@ fn crowded() -> Machine {
     }
     // Freed slots keep their generation.
     calls.extend([1, 8, 26, 62].map(|slot| Call::Delete { caller: 32, id: 65536 + slot }));
-    calls.extend((1..=30).map(|task| wait(task, 65536 + 3 + task % 7, task % 4)));
+    let timeouts = [FOREVER, 1, 2, 3, STANDARD];
+    let timeout = |task: u32| timeouts[task as usize % timeouts.len()];
+    calls.extend((1..=30).map(|task| wait(task, 65536 + 3 + task % 7, timeout(task))));
     made_by(&calls)
 }
 
@@ -264,10 +275,12 @@ fn crowded_create(slot: u32) -> Call {
     Call::Create { caller: 32, name: 1 + slot % 40, count: slot / 6 % 2, attributes, maximum }
 }
 
-/// 31 tasks wait in one PRIORITY queue for a binary semaphore.
+/// 31 tasks wait in one PRIORITY queue for a binary semaphore, one of them as long as no timeout says any more.
 fn long_queue() -> Machine {
     let priorities = (0..32).map(|task| 255 - task / 2).collect();
     let mut calls = vec![Call::Start { slots: 1, priorities }, Call::create(32, 1, 0, 20)];
     calls.extend((1..=31).map(|task| wait(task, 65537, 33 - task)));
-    made_by(&calls)
+    let mut made = made_by(&calls);
+    made.tasks[0].state = State::Waiting { id: 65537, ticks: u32::MAX };
+    made
 }

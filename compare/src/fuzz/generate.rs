@@ -1,6 +1,6 @@
 //! Random calls, weighted so that what matters really occurs.
 
-use crate::call::Call;
+use crate::call::{Answer, Call};
 use crate::fuzz::rng::Rng;
 use crate::model::{identifier, Class, Machine};
 use crate::status::*;
@@ -15,12 +15,12 @@ pub struct Plan {
     weights: [u32; 9],
     /// The share of obtains with NO_WAIT, in a hundred.
     polls: usize,
-    timeouts: &'static [u32],
+    /// How a timeout is drawn.
+    timeout: fn(&mut Rng) -> u32,
 }
 
-/// Timeouts that matter to the rules, and those of a machine that runs on for long.
-const TIMEOUTS: &[u32] = &[0, 1, 1, 2, 3, 5, 9, 1 << 24, u32::MAX];
-const STEADY_TIMEOUTS: &[u32] = &[5, 20, 100, 500];
+/// Ticks left that matter to the rules, the most that tables can hold among them.
+pub const TICKS_LEFT: [u32; 9] = [0, 1, 1, 2, 256, 499, 500, u32::MAX - 1, u32::MAX];
 
 /// Weights of the calls, in the order of `KINDS`: mixed, contended, filling, churning, waking many at once.
 const WEIGHTS: [[u32; 9]; 5] = [
@@ -49,13 +49,14 @@ impl Plan {
             priorities: (0..tasks).map(|_| rng.between(1, spread)).collect(),
             weights: rng.pick(&WEIGHTS),
             polls: rng.pick(&[5, 20]),
-            timeouts: TIMEOUTS,
+            timeout: draw_timeout,
         }
     }
 
     /// A sequence that no wait for ever brings to a halt, with weights in the order of `KINDS`.
     pub fn steady(slots: u32, priorities: Vec<u32>, weights: [u32; 9]) -> Self {
-        Plan { steps: 0, edits: 0, slots, priorities, weights, polls: 10, timeouts: STEADY_TIMEOUTS }
+        let timeout = |rng: &mut Rng| rng.pick(&[5, 20, 100, 500]);
+        Plan { steps: 0, edits: 0, slots, priorities, weights, polls: 10, timeout }
     }
 
     /// The next call of the sequence.
@@ -109,8 +110,29 @@ impl Plan {
             true => rng.pick(&[1, 1, 3, u32::MAX]),
             false => rng.pick(&[0, 0, 0, 2, 4, u32::MAX - 1]),
         };
-        let timeout = rng.pick(self.timeouts);
-        Call::Obtain { caller, id, options, timeout }
+        Call::Obtain { caller, id, options, timeout: (self.timeout)(rng) }
+    }
+}
+
+/// A timeout that matters to the rules, two of three short.
+fn draw_timeout(rng: &mut Rng) -> u32 {
+    let long = draw_long_timeout(rng);
+    rng.pick(&[1, 1, 2, 3, 5, 9, long, long, long])
+}
+
+/// A timeout longer than most sequences: at the standard limit and next to it, far above it, and for ever.
+pub fn draw_long_timeout(rng: &mut Rng) -> u32 {
+    rng.pick(&[STANDARD, STANDARD, 499, 500, 501, 1 << 24, FOREVER - 1, FOREVER, FOREVER])
+}
+
+/// How many ticks follow a call at once: none, or `percent` times in a hundred about as many as the standard limit has, if the
+/// call began a wait with that limit or for ever.
+pub fn draw_ticks(rng: &mut Rng, call: &Call, answer: Answer, percent: usize) -> u32 {
+    let long = matches!(call, Call::Obtain { timeout: STANDARD | FOREVER, .. });
+    if long && answer.status == WAITING && rng.chance(percent) {
+        rng.between(STANDARD_LIMIT - 1, STANDARD_LIMIT + 8)
+    } else {
+        0
     }
 }
 

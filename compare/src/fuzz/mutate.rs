@@ -3,6 +3,7 @@
 mod maximum;
 mod ready;
 
+use crate::fuzz::generate::TICKS_LEFT;
 use crate::fuzz::mutate::maximum::damage_maximum;
 use crate::fuzz::mutate::ready::{damage_sequence, join_sequence, leave_sequence};
 use crate::fuzz::rng::Rng;
@@ -12,7 +13,7 @@ use crate::status::*;
 
 /// Does one random damage and says which.
 pub fn mutate(rng: &mut Rng, machine: &Machine, bytes: &mut [u8]) -> String {
-    match rng.below(16) {
+    match rng.below(17) {
         0 => flip_bit(rng, bytes),
         1 | 2 => set_some_word(rng, machine, bytes),
         3 => swap_words(rng, machine, bytes),
@@ -22,6 +23,7 @@ pub fn mutate(rng: &mut Rng, machine: &Machine, bytes: &mut [u8]) -> String {
         7 => free_slot(rng, machine, bytes),
         8 | 9 => add_waiter(rng, machine, bytes),
         10 | 11 => damage_maximum(rng, machine, bytes),
+        12 => set_ticks(rng, machine, bytes),
         _ => damage_sequence(rng, machine, bytes),
     }
 }
@@ -66,6 +68,17 @@ fn set_some_word(rng: &mut Rng, machine: &Machine, bytes: &mut [u8]) -> String {
     let value = rng.pick(&[0, 1, small, small, WAITING, 65536, 65537, u32::MAX, any]);
     set_word(bytes, at, value);
     format!("{} set to {value}", word_name(at))
+}
+
+/// Writes ticks left into a task, which a waiting one may have and a ready one may not.
+fn set_ticks(rng: &mut Rng, machine: &Machine, bytes: &mut [u8]) -> String {
+    if machine.tasks.is_empty() {
+        return "nothing".into();
+    }
+    let task = rng.between(1, machine.tasks.len() as u32);
+    let ticks = rng.pick(&TICKS_LEFT);
+    set_word(bytes, task_at(task) + TICKS, ticks);
+    format!("ticks left of task {task} set to {ticks}")
 }
 
 fn swap_words(rng: &mut Rng, machine: &Machine, bytes: &mut [u8]) -> String {
@@ -148,11 +161,9 @@ fn add_waiter(rng: &mut Rng, machine: &Machine, bytes: &mut [u8]) -> String {
     let waits = rng.chance(80);
     if waits {
         set_word(bytes, task_at(task) + ANSWER, WAITING);
-        set_word(
-            bytes,
-            task_at(task) + WAITS_ON,
-            identifier(word(bytes, at + GENERATION) & 0xFFFF, index),
-        );
+        let id = identifier(word(bytes, at + GENERATION) & 0xFFFF, index);
+        set_word(bytes, task_at(task) + WAITS_ON, id);
+        set_word(bytes, task_at(task) + TICKS, rng.pick(&TICKS_LEFT));
     }
     let leaves = rng.chance(if waits { 80 } else { 10 });
     if leaves {

@@ -1,36 +1,65 @@
 //! Random sequences of calls, every answer and every byte compared.
 
+use crate::call::{Answer, Call};
 use crate::fuzz::comparison::{Comparison, Difference, Expected, Place};
-use crate::fuzz::generate::Plan;
+use crate::fuzz::generate::{draw_ticks, Plan, TICKS_LEFT};
 use crate::fuzz::lent::Lent;
 use crate::fuzz::rng::Rng;
 use crate::layout::{self, *};
 use crate::model::{identifier, Class, Machine, State};
 use crate::status::*;
 
+/// How often in a hundred a wait with the standard limit or for ever is followed by as many ticks as that limit has.
+const BURSTS: usize = 2;
+
+/// A sequence under way: the machine, and the bytes that have to be lent then.
+struct Sequence<'a, 'b> {
+    comparison: &'a mut Comparison<'b>,
+    place: Place,
+    machine: Machine,
+    expected: Vec<u8>,
+    lent: Lent,
+}
+
+impl Sequence<'_, '_> {
+    fn edit(&mut self, rng: &mut Rng) {
+        edit(rng, &self.machine, &mut self.expected);
+        self.machine = layout::read(&self.expected).expect("an edit keeps the tables in agreement");
+        self.lent.bytes_mut().copy_from_slice(&self.expected);
+    }
+
+    fn step(&mut self, call: &Call) -> Result<Answer, Box<Difference>> {
+        let before = self.machine.clone();
+        let answer = self.machine.call(call);
+        layout::write_into(&self.machine, &mut self.expected);
+        let wanted = Expected { before: Some(&before), answer, bytes: &self.expected };
+        self.comparison.step(self.place, call, &mut self.lent, &wanted)?;
+        self.comparison.coverage.saw(&before, call, answer, &self.machine);
+        self.place.step += 1;
+        Ok(answer)
+    }
+}
+
 /// Runs one sequence; gives back the machine that it ended in.
 pub fn run(comparison: &mut Comparison, seed: u64) -> Result<Machine, Box<Difference>> {
     let mut rng = Rng::new(seed);
     let plan = Plan::draw(&mut rng);
-    let mut machine = Machine::default();
-    let mut expected = layout::write(&machine);
-    let mut lent = Lent::new(&expected, rng.below(4));
-    for step in 0..plan.steps {
+    let machine = Machine::default();
+    let expected = layout::write(&machine);
+    let lent = Lent::new(&expected, rng.below(4));
+    let place = Place { part: "random sequences", seed, step: 0 };
+    let mut sequence = Sequence { comparison, place, machine, expected, lent };
+    for _ in 0..plan.steps {
         if rng.chance(plan.edits) {
-            edit(&mut rng, &machine, &mut expected);
-            machine = layout::read(&expected).expect("an edit keeps the tables in agreement");
-            lent.bytes_mut().copy_from_slice(&expected);
+            sequence.edit(&mut rng);
         }
-        let call = plan.draw_call(&mut rng, &machine);
-        let before = machine.clone();
-        let answer = machine.call(&call);
-        layout::write_into(&machine, &mut expected);
-        let place = Place { part: "random sequences", seed, step };
-        let wanted = Expected { before: Some(&before), answer, bytes: &expected };
-        comparison.step(place, &call, &mut lent, &wanted)?;
-        comparison.coverage.saw(&before, &call, answer, &machine);
+        let call = plan.draw_call(&mut rng, &sequence.machine);
+        let answer = sequence.step(&call)?;
+        for _ in 0..draw_ticks(&mut rng, &call, answer, BURSTS) {
+            sequence.step(&Call::Tick)?;
+        }
     }
-    Ok(machine)
+    Ok(sequence.machine)
 }
 
 /// Writes numbers near their ends into tables, which still agree afterwards.
@@ -102,7 +131,7 @@ fn edit_task(rng: &mut Rng, machine: &Machine, bytes: &mut [u8]) {
     let number = rng.between(1, machine.tasks.len() as u32);
     let at = task_at(number);
     match machine.tasks[number as usize - 1].state {
-        State::Waiting { .. } => set_word(bytes, at + TICKS, rng.pick(&[0, 1, 1, 2, 256, u32::MAX])),
+        State::Waiting { .. } => set_word(bytes, at + TICKS, rng.pick(&TICKS_LEFT)),
         State::Ready { .. } => {
             let endings = [SUCCESSFUL, TIMEOUT, OBJECT_WAS_DELETED, UNSATISFIED];
             set_word(bytes, at + ANSWER, rng.pick(&endings));

@@ -76,7 +76,7 @@ fn refuse(service: &Service, id: u32) -> Option<i32> {
 fn perform(words: &mut Words, entry: &mut u32, service: &Service) -> i32 {
     let id = *entry;
     let mut obtain =
-        |caller, options, ticks: u32| match inplace::obtain(words, caller, id, options, ticks).status {
+        |caller, options, timeout| match inplace::obtain(words, caller, id, options, timeout).status {
             UNSATISFIED => -85,
             status => status as i32,
         };
@@ -99,10 +99,9 @@ fn perform(words: &mut Words, entry: &mut u32, service: &Service) -> i32 {
             UNSATISFIED => -73,
             status => status as i32,
         },
-        Service::WaiSem { caller, .. } | Service::TwaiSem { caller, tmout: -1, .. } => {
-            obtain(caller, 0, 0)
-        }
+        Service::WaiSem { caller, .. } => obtain(caller, 0, 4_294_967_295),
         Service::PreqSem { caller, .. } => obtain(caller, NO_WAIT, 0),
+        // The 32 bits of -1 are those of the timeout for ever.
         Service::TwaiSem { caller, tmout, .. } => obtain(caller, u32::from(tmout == 0), tmout as u32),
         Service::RefSem { .. } | Service::Delete { .. } => 0,
     }

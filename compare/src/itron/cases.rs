@@ -1,4 +1,4 @@
-//! The sentences of document 02, No. 5, as cases that run on any facade.
+//! The sentences of document 02, No. 5, and what No. 6 says of these calls, as cases that run on any facade.
 
 mod refusals;
 
@@ -122,6 +122,12 @@ impl Case<'_> {
         self.call(Call::Tick, 0, 0, next);
     }
 
+    /// The ticks left of a task, 0 if it waits for ever or not at all.
+    fn ticks_left(&mut self, task: u32, wanted: u32) {
+        let found = word(self.lent.tables.bytes(), task_at(task) + TICKS);
+        self.check(("ticks left of task", task), wanted, found);
+    }
+
     /// The list's first entries; all behind them are 0.
     fn list(&mut self, wanted: &[u32]) {
         let mut list = wanted.to_vec();
@@ -153,13 +159,27 @@ const CASES: [Named; 17] = [
         case.del(1, 3, E_OK, 1);
         case.list(&[65538]);
     }),
-    ("in twai_sem a tmout of -1 waits for ever", |case| {
-        case.start(2, &[10, 20]);
+    ("wai_sem, and twai_sem with a tmout of -1, wait for ever", |case| {
+        case.start(2, &[10, 20, 30, 40]);
         case.cre(1, 1, (0, 0, 1), E_OK, 1);
-        case.twai(1, 1, -1, 100, 2);
-        (0..5).for_each(|_| case.tick(2));
-        case.answer(1, 100);
-        case.check("ticks left", 0, word(case.lent.tables.bytes(), task_at(1) + TICKS));
+        case.wai(1, 1, 100, 2);
+        case.twai(2, 1, -1, 100, 3);
+        case.twai(3, 1, 500, 100, 4);
+        for (task, ticks) in [(1, 0), (2, 0), (3, 500)] {
+            case.ticks_left(task, ticks);
+        }
+        (0..499).for_each(|_| case.tick(4));
+        case.answer(3, 100);
+        // The 500th ends the wait that has a number of ticks, and the others outlast it.
+        (0..101).for_each(|_| case.tick(3));
+        for (task, code) in [(1, 100), (2, 100), (3, E_TMOUT)] {
+            case.answer(task, code);
+            case.ticks_left(task, 0);
+        }
+        case.sig(0, 1, E_OK, 1);
+        case.sig(0, 1, E_OK, 1);
+        case.answer(1, E_OK);
+        case.answer(2, E_OK);
     }),
     ("0 polls", |case| {
         case.start(2, &[10, 20]);
@@ -179,7 +199,7 @@ const CASES: [Named; 17] = [
         case.tick(1);
         case.answer(1, E_TMOUT);
         case.twai(1, 1, i32::MAX, 100, 2);
-        case.check("ticks left", MOST_MAPPED, word(case.lent.tables.bytes(), task_at(1) + TICKS));
+        case.ticks_left(1, MOST_MAPPED);
         case.tick(2);
     }),
     ("a semid may be used again after del_sem", |case| {

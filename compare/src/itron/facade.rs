@@ -5,8 +5,8 @@ use crate::itron::*;
 use crate::layout::{self, Model};
 use crate::model::{Class, Machine, Semaphore};
 use crate::status::{
-    MOST_SLOTS, NO_WAIT, OBJECT_WAS_DELETED, PRIORITY, SUCCESSFUL, TIMEOUT, TOO_MANY, UNSATISFIED,
-    WAITING,
+    FOREVER, MOST_SLOTS, NO_WAIT, OBJECT_WAS_DELETED, PRIORITY, SUCCESSFUL, TIMEOUT, TOO_MANY,
+    UNSATISFIED, WAITING,
 };
 
 /// The live semaphore with this identifier, if a list may have it.
@@ -116,7 +116,7 @@ impl Scanner<'_> {
         self.place(semid)?;
         let (options, timeout) = match tmout {
             ..=-2 => return Err(E_PAR),
-            -1 => (0, 0),
+            -1 => (0, FOREVER),
             0 => (NO_WAIT, 0),
             ticks => (0, ticks.unsigned_abs()),
         };

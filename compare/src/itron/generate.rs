@@ -11,7 +11,7 @@ const WEIGHTS: [[u32; SERVICES.len()]; 3] =
 
 pub const SEMIDS: [u32; 5] = [0, 1, 64, 65, u32::MAX];
 pub const COUNTS: [i32; 9] = [i32::MIN, -2, -1, 0, 1, 2, 12, i32::MAX - 1, i32::MAX];
-pub const TMOUTS: [i32; 9] = [i32::MIN, -3, -2, -1, 0, 1, 2, i32::MAX - 1, i32::MAX];
+pub const TMOUTS: [i32; 12] = [i32::MIN, -3, -2, -1, 0, 1, 2, 499, 500, 501, i32::MAX - 1, i32::MAX];
 pub const SEMATRS: [u32; 8] = [0, 1, 2, 3, 4, 16, 1 << 31, u32::MAX];
 
 /// A call of any kind, for tables and list as they are.

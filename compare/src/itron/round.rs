@@ -9,12 +9,12 @@ use crate::itron::damage::{damaged, Base};
 use crate::itron::facade::list_agrees;
 use crate::itron::generate::{draw, draw_kind};
 use crate::itron::lent::{Lending, PLACES};
-use crate::itron::{ENTRIES, MOST_MAPPED, SERVICES};
+use crate::itron::{Service, ENTRIES, MOST_MAPPED, SERVICES, WAITING_CODE};
 use crate::layout::{self, LENGTH};
 use crate::model::{identifier, Class, Machine};
 use crate::state::comparison::Compared;
 use crate::state::write::write;
-use crate::status::SUCCESSFUL;
+use crate::status::{STANDARD_LIMIT, SUCCESSFUL};
 
 const STEPS: usize = 200;
 const STEPS_AFTER_LOAD: usize = 36;
@@ -22,6 +22,8 @@ const STEPS_AFTER_LOAD: usize = 36;
 const CLASSIC: usize = 30;
 const BY_HAND: usize = 1;
 const MENDS: usize = 25;
+/// How many waits for ever in a hundred are followed by more ticks than the standard limit.
+const BURSTS: usize = 1;
 
 struct Round<'a, 'b> {
     comparison: &'a mut Comparison<'b>,
@@ -97,6 +99,20 @@ impl Round<'_, '_> {
         let broken_by_delete = self.broken == Some(Broken::ByDelete);
         self.comparison.seen.after_plain_delete(broken_by_delete, given.code());
         self.look_again();
+        self.let_time_pass(&service, given.code())
+    }
+
+    /// Now and then more ticks than the standard limit, behind a call that began a wait for ever.
+    fn let_time_pass(&mut self, service: &Service, code: i32) -> Compared {
+        let for_ever = matches!(service, Service::WaiSem { .. } | Service::TwaiSem { tmout: -1, .. });
+        if !for_ever || code != WAITING_CODE || !self.rng.chance(BURSTS) {
+            return Ok(());
+        }
+        for _ in 0..=STANDARD_LIMIT {
+            self.comparison.call(&mut self.lent, &Call::Tick)?;
+        }
+        self.look_again();
+        self.comparison.seen.outlasted(self.machine.is_waiting(service.caller()));
         Ok(())
     }
 

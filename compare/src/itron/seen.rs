@@ -25,7 +25,7 @@ const CODES: [&[i32]; SERVICES.len()] = [
 const TURNED: [i32; 6] = [E_OK, WAITING_CODE, E_TMOUT, E_DLT, E_RLWAI, E_SYS];
 
 /// Happenings besides the codes that a run has to have seen.
-const HAPPENINGS: [&str; 33] = [
+const HAPPENINGS: [&str; 35] = [
     "cre_sem in a slot that was used before",
     "cre_sem gave generation 65535",
     "cre_sem with TA_TPRI",
@@ -40,8 +40,10 @@ const HAPPENINGS: [&str; 33] = [
     "sig_sem refused at maximum 1",
     "sig_sem refused at a maximum between",
     "wai_sem made the last ready task wait",
+    "a wait of wai_sem or of twai_sem with -1 outlasted the standard limit",
     "twai_sem began a wait for ever",
     "twai_sem began a wait of 1 tick",
+    "twai_sem began a wait of 500 ticks",
     "twai_sem began a wait of 2147483647 ticks",
     "twai_sem polled and got it",
     "ref_sem by an interrupt",
@@ -113,6 +115,12 @@ impl Seen {
         self.happened("E_SYS after a plain delete of a mapped semaphore", broken && code == E_SYS);
         self.happened("served again once its entry was cleared", self.mended && code == E_OK);
         self.mended = false;
+    }
+
+    /// Counts a wait for ever that was followed by more ticks than the standard limit.
+    pub fn outlasted(&mut self, still_waits: bool) {
+        let name = "a wait of wai_sem or of twai_sem with -1 outlasted the standard limit";
+        self.happened(name, still_waits);
     }
 
     pub fn mended(&mut self, after_delete: bool) {
@@ -217,6 +225,7 @@ impl Seen {
         let waits = code == WAITING_CODE;
         self.happened("twai_sem began a wait for ever", waits && tmout == -1);
         self.happened("twai_sem began a wait of 1 tick", waits && tmout == 1);
+        self.happened("twai_sem began a wait of 500 ticks", waits && tmout == 500);
         self.happened("twai_sem began a wait of 2147483647 ticks", waits && tmout == i32::MAX);
         self.happened("twai_sem polled and got it", code == E_OK && tmout == 0);
     }

@@ -2,7 +2,7 @@
 
 use std::collections::BTreeMap;
 
-use crate::fuzz::coverage::next_passes_a_lower_equal;
+use crate::fuzz::coverage::{next_passes_a_lower_equal, Waits};
 use crate::model::State;
 use crate::sections::read::{self, Fault};
 use crate::sections::refusals::REFUSALS;
@@ -11,7 +11,7 @@ use crate::sections::*;
 use crate::status::*;
 
 /// Everything that random runs have to have shown, besides refusals and faults of the file.
-const HAPPENINGS: [&str; 60] = [
+const HAPPENINGS: [&str; 65] = [
     "11 before 4",
     "an event of no kind behind all others",
     "33 scripts or more",
@@ -20,6 +20,8 @@ const HAPPENINGS: [&str; 60] = [
     "no event",
     "turn: obtain granted",
     "turn: obtain waits",
+    "turn: obtain waits by timeout 0",
+    "turn: obtain waits by timeout 4294967295",
     "turn: load",
     "turn: store",
     "turn: set",
@@ -59,7 +61,10 @@ const HAPPENINGS: [&str; 60] = [
     "skip: obtain refused with 4",
     "skip: obtain refused with 4, its slot used again",
     "skip: obtain refused with 13",
+    "skip: obtain refused with 13, timeout 0",
+    "skip: obtain refused with 13, timeout 4294967295",
     "skip: wait ended with 6",
+    "skip: wait by timeout 0 ended at the 500th tick",
     "skip: wait ended with 13 by a flush",
     "skip: two at one event",
     "grant at a release by another script task",
@@ -88,6 +93,8 @@ const FAULTS: [&str; 7] = [
 #[derive(Default)]
 pub struct Coverage {
     seen: BTreeMap<String, u64>,
+    /// The waits of one run.
+    waits: Waits,
 }
 
 impl Coverage {
@@ -112,6 +119,7 @@ impl Coverage {
         self.happened("scripts on a machine not started", unstarted && !input.scripts.is_empty());
         self.happened("no script", input.scripts.is_empty());
         self.happened("no event", input.events.is_empty());
+        self.waits = Waits::default();
     }
 
     /// Counts a refusal that nothing else would have given.
@@ -147,14 +155,24 @@ impl Coverage {
             _ => {}
         }
         self.waits_ended(input, event, before, after);
+        let Some((call, answer)) = made else { return };
+        let ended = self.waits.saw(call, *answer, &after.machine);
+        let scripted = |task: u32| input.scripts.iter().any(|script| script.task == task);
+        let ran_out = ended.iter().any(|(task, wait)| scripted(*task) && wait.is_standard_at_end());
+        self.happened("skip: wait by timeout 0 ended at the 500th tick", ran_out);
     }
 
     fn turn_call(&mut self, call: &Call, status: u32, before: &Running) {
-        let Call::Obtain { id, .. } = *call else {
+        let Call::Obtain { id, timeout, .. } = *call else {
             return self.happened("turn: release", true);
         };
         self.happened("turn: obtain granted", status == SUCCESSFUL);
         self.happened("turn: obtain waits", status == WAITING);
+        if let STANDARD | FOREVER = timeout {
+            self.happened(&format!("turn: obtain waits by timeout {timeout}"), status == WAITING);
+            let name = format!("skip: obtain refused with 13, timeout {timeout}");
+            self.happened(&name, status == UNSATISFIED);
+        }
         self.happened("skip: obtain refused with 4", status == INVALID_ID);
         let index = (id % 65536) as usize - 1;
         let reused = status == INVALID_ID && before.machine.slots[index].live.is_some();

@@ -3,8 +3,11 @@
 use std::collections::BTreeMap;
 
 use crate::call::Answer;
+use crate::fuzz::generate::TICKS_LEFT;
 use crate::fuzz::rng::Rng;
-use crate::layout::{set_word, slot_at, task_at, word, LENGTH, MAXIMUM, READY, SEQUENCE, SLOTS};
+use crate::layout::{
+    set_word, slot_at, task_at, word, LENGTH, MAXIMUM, READY, SEQUENCE, SLOTS, TASKS, TICKS,
+};
 use crate::sections::draw::random_run;
 use crate::sections::lent::{Lent, GRANTS, PLACES};
 use crate::sections::read::read;
@@ -12,7 +15,7 @@ use crate::sections::rows::{ROW, SCRIPT};
 use crate::status::MOST_TASKS;
 
 /// What can be wrong with what is lent, besides what a text can say.
-const DAMAGES: [&str; 17] = [
+const DAMAGES: [&str; 18] = [
     "none",
     "places too short",
     "places longer",
@@ -30,6 +33,7 @@ const DAMAGES: [&str; 17] = [
     "two places of the ready sequence swapped",
     "a word of the ready sequence",
     "the maximum of a slot",
+    "the ticks left of a task",
 ];
 
 /// A run as numbers with the name of its damage, or nothing if the seed's text is no run.
@@ -91,10 +95,16 @@ fn damage_tables(rng: &mut Rng, tables: &mut [u8], kind: usize) {
             let at = READY + rng.below(ready + 2).min(MOST_TASKS);
             set_word(tables, at, rng.pick(&[0, 1, 2, 3, 4, 33, u32::MAX]));
         }
-        _ => {
+        16 => {
             let slots = word(tables, SLOTS) as usize;
             let at = slot_at(rng.below(slots.max(1))) + MAXIMUM;
             set_word(tables, at, rng.pick(&[0, 1, 1, 2, 12, u32::MAX]));
+        }
+        _ => {
+            // It is mostly the last task that waits at the outset.
+            let last = word(tables, TASKS).max(1);
+            let task = rng.pick(&[1, last, last]);
+            set_word(tables, task_at(task) + TICKS, rng.pick(&TICKS_LEFT));
         }
     }
 }
@@ -116,8 +126,8 @@ impl Statuses {
     /// What has to occur: each damage, what it is refused with, and runs that all the same are not refused.
     pub fn gaps(&self) -> Vec<String> {
         let refused = [1, 5, 6, 8, 9, 10, 11, 12].map(|kind| (DAMAGES[kind], 11));
-        let fine = [0, 2, 3, 4, 7, 10, 11, 12, 13, 14, 15, 16].map(|kind| (DAMAGES[kind], 0));
-        let damaged = [13, 15, 16].map(|kind| (DAMAGES[kind], 25));
+        let fine = [0, 2, 3, 4, 7, 10, 11, 12, 13, 14, 15, 16, 17].map(|kind| (DAMAGES[kind], 0));
+        let damaged = [13, 15, 16, 17].map(|kind| (DAMAGES[kind], 25));
         let others = [(DAMAGES[0], 4), (DAMAGES[0], 11), (DAMAGES[8], 4)];
         let wanted = refused.iter().chain(&fine).chain(&damaged).chain(&others);
         let missing = wanted.filter(|key| !self.seen.contains_key(key));

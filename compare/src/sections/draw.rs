@@ -1,7 +1,7 @@
 //! Random runs as text, weighted so that what matters really occurs.
 
 use crate::call::Call;
-use crate::fuzz::generate::Plan;
+use crate::fuzz::generate::{draw_long_timeout, draw_ticks, Plan};
 use crate::fuzz::rng::Rng;
 use crate::model::{identifier, Machine, Semaphore};
 use crate::sections::runner::{open_sections, Running};
@@ -9,7 +9,7 @@ use crate::sections::spoil::{break_text, spoil};
 use crate::sections::write::{cell_lines, event_line, input_lines, local_lines, script_lines};
 use crate::sections::*;
 use crate::session::lines::line_of;
-use crate::status::greatest_maximum;
+use crate::status::{greatest_maximum, FOREVER, STANDARD};
 
 /// Lines of the first part that are skipped there, whatever they would be later.
 const SKIPPED: [&str; 8] =
@@ -22,6 +22,9 @@ const WEIGHTS: [[u32; 10]; 4] = [
     [45, 30, 8, 6, 3, 2, 2, 1, 1, 2],
     [50, 4, 8, 8, 4, 12, 12, 1, 0, 1],
 ];
+
+/// How often in a hundred a section's wait with the standard limit or for ever is followed by as many ticks as that limit has.
+const BURSTS: usize = 8;
 
 /// The text of a random run; the same seed gives the same text.
 pub fn random_run(seed: u64) -> Vec<u8> {
@@ -111,7 +114,8 @@ fn draw_setup(rng: &mut Rng) -> Vec<Call> {
     if waits {
         let id = identifier(1, (guarded + u32::from(other)) as usize);
         calls.push(Call::create(1, 5, 0, rng.pick(&[0, 4, 32])));
-        calls.push(Call::Obtain { caller: tasks, id, options: 0, timeout: rng.pick(&[0, 0, 2, 5]) });
+        let timeout = rng.pick(&[FOREVER, STANDARD, 2, 5]);
+        calls.push(Call::Obtain { caller: tasks, id, options: 0, timeout });
     }
     calls
 }
@@ -170,7 +174,8 @@ fn draw_section(rng: &mut Rng, input: &Input, ids: &[u32]) -> Section {
     let count = if rng.chance(3) { MOST_STEPS } else { rng.pick(&[0, 1, 2, 2, 3, 4]) };
     let steps = (0..count).map(|_| draw_step(rng, input, id)).collect();
     let options = rng.pick(&[0, 0, 0, 0, 2, u32::MAX - 1, 1, 3]);
-    Section { id, options, timeout: rng.pick(&[0, 0, 1, 1, 2, 3, u32::MAX]), steps }
+    let long = draw_long_timeout(rng);
+    Section { id, options, timeout: rng.pick(&[1, 1, 2, 3, long, long, long]), steps }
 }
 
 /// A step that a section of this identifier may take.
@@ -196,12 +201,18 @@ fn draw_events(rng: &mut Rng, input: &Input) -> Vec<Event> {
     let mut running = Running::new(input);
     let mut events = Vec::new();
     let mut add = |running: &mut Running, event: Event| {
-        running.event(&event);
+        let made = running.event(&event);
         events.push(event);
+        made
     };
     for _ in 0..rng.pick(&[0, 2, 10, 20, 20, 40, 40, 60]) {
         let event = draw_event(rng, &plan, &weights, input, &running);
-        add(&mut running, event);
+        let turn = matches!(event, Event::Turn(_));
+        let made = add(&mut running, event).filter(|_| turn);
+        let Some((call, answer)) = made else { continue };
+        for _ in 0..draw_ticks(rng, &call, answer, BURSTS) {
+            add(&mut running, Event::Call(Call::Tick));
+        }
     }
     // Half of the runs close what is open, and some finish what can be finished.
     let (drain, finish) = (rng.chance(50), rng.chance(30));
@@ -212,10 +223,10 @@ fn draw_events(rng: &mut Rng, input: &Input) -> Vec<Event> {
             Some(grant) if drain => add(&mut running, Event::Turn(grant.task)),
             _ if finish && !active.is_empty() => {
                 let index = active[rng.below(active.len().min(3))];
-                add(&mut running, Event::Turn(input.scripts[index].task));
+                add(&mut running, Event::Turn(input.scripts[index].task))
             }
             _ => break,
-        }
+        };
     }
     events
 }
@@ -240,7 +251,7 @@ fn draw_event(
     Event::Call(match kind {
         1 => Call::Tick,
         2 => {
-            let timeout = rng.pick(&[0, 1, 2, 3]);
+            let timeout = rng.pick(&[1, 1, 2, 2, 3, 3, STANDARD, FOREVER]);
             let caller = if owner != 0 && rng.chance(30) { owner } else { caller };
             Call::Obtain { caller, id, options: rng.pick(&[0, 0, 0, 1]), timeout }
         }

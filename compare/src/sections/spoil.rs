@@ -6,6 +6,7 @@ use crate::model::{identifier, Machine, Semaphore};
 use crate::sections::draw::{draw_number, draw_other, draw_step, usable_ids};
 use crate::sections::*;
 use crate::session::lines::{break_line, line_of_length};
+use crate::status::FOREVER;
 
 /// Lines that are right in some part of a file and wrong in another.
 const STRAY: [&str; 19] = [
@@ -215,7 +216,7 @@ fn let_script_task_call(rng: &mut Rng, input: &mut Input) {
     let call = match rng.below(5) {
         0 => Call::create(caller, 3, 1, rng.pick(&[0, 48])),
         1 => Call::Delete { caller, id },
-        2 => Call::Obtain { caller, id, options: 0, timeout: 0 },
+        2 => Call::Obtain { caller, id, options: 0, timeout: FOREVER },
         3 => Call::Release { caller, id },
         _ => Call::Flush { caller, id },
     };

@@ -1,11 +1,15 @@
 //! Sessions as text: random ones with broken lines of every kind, and long replays.
 
 use crate::call::Call;
-use crate::fuzz::generate::Plan;
+use crate::fuzz::generate::{draw_ticks, Plan};
 use crate::fuzz::rng::Rng;
 use crate::fuzz::workload;
 use crate::model::Machine;
 use crate::session::{parse_line, LONGEST_LINE};
+
+/// How often in a hundred a wait with the standard limit or for ever is followed by as many ticks as that limit has, if there is
+/// room for them.
+const BURSTS: usize = 20;
 
 /// The line that says this call; `task` has none.
 pub fn line_of(call: &Call) -> Option<String> {
@@ -39,17 +43,24 @@ pub fn replay_of_ticks(lines: usize) -> Vec<u8> {
     text
 }
 
-/// A random session; every other one has no newline at its end.
+/// A random session; every other one has no newline at its end. A long one has room for the ticks of the standard limit.
 pub fn random_session(seed: u64, lines: usize) -> Vec<u8> {
     let mut rng = Rng::new(seed);
     let plan = Plan::draw(&mut rng);
     let mut machine = Machine::default();
     let mut text = Vec::new();
-    for _ in 0..lines {
-        let line = draw_line(&mut rng, &plan, &machine);
+    let mut ticks = 0usize;
+    for left in (0..lines).rev() {
+        let line = match ticks {
+            0 => draw_line(&mut rng, &plan, &machine),
+            _ => b"tick".to_vec(),
+        };
+        ticks = ticks.saturating_sub(1);
         // Later lines are drawn for the machine that this one leaves.
         if let Some(call) = parse_line(&line) {
-            machine.call(&call);
+            let answer = machine.call(&call);
+            let burst = draw_ticks(&mut rng, &call, answer, BURSTS) as usize;
+            ticks += if burst <= left { burst } else { 0 };
         }
         text.extend_from_slice(&line);
         text.push(b'\n');

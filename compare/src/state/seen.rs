@@ -3,10 +3,10 @@
 use std::collections::BTreeMap;
 
 use crate::call::Answer;
-use crate::model::{Class, Machine};
+use crate::model::{Class, Machine, State, Task};
 use crate::state::read::{only_maxima_are_wrong, Fault};
 use crate::state::{write, EDITION, LONGEST, OLD_EDITION};
-use crate::status::{LAST_GENERATION, SUCCESSFUL};
+use crate::status::{LAST_GENERATION, STANDARD_LIMIT, SUCCESSFUL};
 
 /// What is saved.
 pub mod saves {
@@ -73,7 +73,7 @@ const LOADS: [(&str, &[u32]); 18] = [
 ];
 
 /// Tables that have to be among those saved, and what has to follow a load.
-const HAPPENINGS: [&str; 18] = [
+const HAPPENINGS: [&str; 24] = [
     "saved: the longest file",
     "saved: no task ready",
     "saved: no task waiting",
@@ -92,6 +92,12 @@ const HAPPENINGS: [&str; 18] = [
     "loaded: edition 1 with a free slot",
     "saved: a maximum that is neither 1 nor 4294967295",
     "refused: edition 2 for its maxima alone",
+    "loaded: edition 2 with a wait for ever",
+    "loaded: edition 2 with a wait of the standard limit",
+    "loaded: edition 2 with a wait of 4294967295 ticks",
+    "loaded: edition 1 with a wait for ever",
+    "loaded: edition 1 with a wait of the standard limit",
+    "loaded: edition 1 with a wait of 4294967295 ticks",
 ];
 
 type Counts<Key> = BTreeMap<Key, u64>;
@@ -165,6 +171,16 @@ impl Seen {
         self.happened(HAPPENINGS[7], last(true));
         let mut live = machine.slots.iter().filter_map(|slot| slot.live.as_ref());
         self.happened(HAPPENINGS[16], live.any(|live| (2..u32::MAX).contains(&live.maximum)));
+        self.drew_waits(18, machine);
+    }
+
+    /// Counts what waits are in the tables, by the happenings from this one on.
+    fn drew_waits(&mut self, first: usize, machine: &Machine) {
+        for (place, wanted) in (first..).zip([0, STANDARD_LIMIT, u32::MAX]) {
+            let waits =
+                |task: &Task| matches!(task.state, State::Waiting { ticks, .. } if ticks == wanted);
+            self.happened(HAPPENINGS[place], machine.tasks.iter().any(waits));
+        }
     }
 
     /// Counts what a round's tables are like that are loaded from edition 1.
@@ -177,6 +193,7 @@ impl Seen {
         self.happened(HAPPENINGS[13], of(Class::Binary));
         self.happened(HAPPENINGS[14], of(Class::SimpleBinary));
         self.happened(HAPPENINGS[15], machine.slots.iter().any(|slot| slot.live.is_none()));
+        self.drew_waits(21, machine);
     }
 
     /// What has to occur and did not.

@@ -136,7 +136,7 @@ without-the-list : bothCode (runOf (begun ∷ Family (CreSem 1 1 0 (pos 0) (pos 
 unfolding runOf
 without-the-list = refl
 
--- tmout -1 outlasts any tick
+-- tmout -1 outlasts ticks
 waits-for-ever : codeOf (taskOf
     (runOf (begun ∷ Family (CreSem 1 1 0 (pos 0) (pos 1)) ∷ Family (TwaiSem 1 1 (minus 1)) ∷ Classic (ask Tick) ∷ Classic (ask Tick) ∷ []) .tables) 1 .answer)
     ≡ began

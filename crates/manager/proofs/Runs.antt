@@ -111,10 +111,10 @@ module _ {bs : List ℕ} (g : Agreeing bs) (call : Call) (priorities : List ℕ)
   left : replyTo bs call priorities .bytes ≡ laid (step (modelOf bs) call priorities .tables)
   left = ap (λ (x : Reply). x .bytes) (reply-is bs call priorities (passes g))
 
-  left-agreeing : Agreeing (replyTo bs call priorities .bytes)
+  pub left-agreeing : Agreeing (replyTo bs call priorities .bytes)
   left-agreeing = agreeing-laid (step (modelOf bs) call priorities .tables) (kept (modelOf bs) call priorities fits (g .agrees)) _ left
 
-  left-model : modelOf (replyTo bs call priorities .bytes) ≡ step (modelOf bs) call priorities .tables
+  pub left-model : modelOf (replyTo bs call priorities .bytes) ≡ step (modelOf bs) call priorities .tables
   left-model = model-is (step (modelOf bs) call priorities .tables) (kept (modelOf bs) call priorities fits (g .agrees)) _ left
 
 -- the sequence of ready tasks after a call, read from the bytes before and after it

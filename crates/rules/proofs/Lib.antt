@@ -10,4 +10,5 @@ pub mod Sequence
 pub mod Searching
 pub mod Looking
 pub mod Invariants
+pub mod Waits
 pub mod History

@@ -1,5 +1,5 @@
--- Document 01's cases "Run by a program" and "Ways to get it nearly right", the sequence of request 1 and the maxima of request 4, computed
--- on the rules.
+-- Document 01's cases "Run by a program" and "Ways to get it nearly right", the sequence of request 1, the maxima of request 4 and the timeouts of request 6,
+-- computed on the rules.
 use mathlib.Core.Path.{_≡_, refl}
 use mathlib.Core.List.{List, [], _∷_, map}
 use Prim.Native.Nat.{ℕ}
@@ -100,14 +100,16 @@ timeouts =
     ∷ (obtains 2 first 1 0 gives says 13 0 1)
     ∷ []
 
--- option bits other than 0 have no effect, and timeout 0 is for ever
+-- option bits other than 0 have no effect, and NO_WAIT hears no timeout
 abbrev options : List Line
 options =
     three 1 2 3
     ∷ (ask (Create 3 7 0 0 4294967295) gives says 0 first 1)
-    ∷ (obtains 1 first 2 0 gives says 100 0 2)
+    ∷ (obtains 1 first 2 4294967295 gives says 100 0 2)
     ∷ (ask Tick gives says 0 0 2)
     ∷ (obtains 2 first 3 5 gives says 13 0 2)
+    ∷ (obtains 2 first 1 0 gives says 13 0 2)
+    ∷ (obtains 2 first 1 4294967295 gives says 13 0 2)
     ∷ (ask Tick gives says 0 0 2)
     ∷ (ask (Delete 3 first) gives says 0 0 1)
     ∷ []
@@ -138,8 +140,8 @@ abbrev inTurn : List Line
 inTurn =
     (startWith 1 (5 ∷ 4 ∷ 9 ∷ []) gives says 0 0 2)
     ∷ (ask (Create 3 7 0 0 4294967295) gives says 0 first 2)
-    ∷ (obtains 1 first 0 0 gives says 100 0 2)
-    ∷ (obtains 2 first 0 0 gives says 100 0 3)
+    ∷ (obtains 1 first 0 4294967295 gives says 100 0 2)
+    ∷ (obtains 2 first 0 4294967295 gives says 100 0 3)
     ∷ (ask (Release 3 first) gives says 0 0 1)
     ∷ (obtains 3 first 1 0 gives says 13 0 1)
     ∷ []

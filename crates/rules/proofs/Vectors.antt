@@ -1,4 +1,4 @@
--- P1 to P14 of document 01 with the maxima of request 4, P15 of request 1, and what request 3 counts.
+-- P1 to P14 of document 01 with the maxima of request 4 and the timeouts of request 6, P15 of request 1, and what request 3 counts.
 use mathlib.Core.Path.{_≡_, refl}
 use mathlib.Core.List.{List, [], _∷_, _++_}
 use Prim.Native.Nat.{ℕ}
@@ -13,14 +13,14 @@ abbrev pub worked : List Line
 worked =
     (startWith 4 (10 ∷ 20 ∷ []) gives says 0 0 1)
     ∷ (ask (Create 1 77 1 20 1) gives says 0 65537 1)
-    ∷ (obtains 2 65537 0 0 gives says 0 0 1)
+    ∷ (obtains 2 65537 0 4294967295 gives says 0 0 1)
     ∷ (obtains 1 65537 0 3 gives says 100 0 2)
     ∷ (ask Tick gives says 0 0 2)
     ∷ (ask (Release 2 65537) gives says 0 0 1)
     ∷ (ask (Delete 2 65537) gives says 12 0 1)
     ∷ (ask (Release 1 65537) gives says 0 0 1)
     ∷ (ask (Delete 1 65537) gives says 0 0 1)
-    ∷ (obtains 1 65537 0 0 gives says 4 0 1)
+    ∷ (obtains 1 65537 0 4294967295 gives says 4 0 1)
     ∷ (ask (Create 1 78 2 0 4294967295) gives says 0 131073 1)
     ∷ []
 

@@ -77,6 +77,16 @@ internalError = 25
 abbrev pub waiting : ℕ
 waiting = 100
 
+-- request 6: timeouts that are no number of ticks, and the standard limit in ticks
+abbrev pub standardTimeout : ℕ
+standardTimeout = 0
+
+abbrev pub standardLimit : ℕ
+standardLimit = 500
+
+abbrev pub noTimeout : ℕ
+noTimeout = 4294967295
+
 -- attributes that create allows: 4 is PRIORITY (else FIFO); 16 is binary, 32 simple binary, neither counting
 abbrev pub allowed : ℕ → Bool
 allowed a = eqb a 0 or eqb a 4 or eqb a 16 or eqb a 20 or eqb a 32 or eqb a 36

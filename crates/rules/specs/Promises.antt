@@ -1,11 +1,11 @@
--- Document 01: what holds of every call's answer; request 1: the next task, and the sequence after every call.
+-- Document 01: what holds of every call's answer; request 1: the next task, and the sequence after every call; request 6: how long a wait goes on.
 use mathlib.Core.Path.{_≡_}
 use mathlib.Core.Bool.{Bool, true, false}
 use mathlib.Core.List.{List, [], _∷_, _++_}
-use Prim.Native.Nat.{ℕ, _≤_, _<_}
+use Prim.Native.Nat.{ℕ, _+_, _≤_, _<_}
 use lib.Dec.{eqb}
 use lib.ListN.{length, getD, take}
-use Rattle.laws.specs.Choose.{choose, _and_, _or_, isnt}
+use Rattle.laws.specs.Choose.{choose, bit, _and_, _or_, isnt}
 use Rattle.laws.specs.All.{those}
 use Rattle.rules.specs.declared.Call.{Call}
 use Rattle.rules.specs.declared.Answer.{Answer}
@@ -13,7 +13,7 @@ use Rattle.rules.specs.declared.Call.the-variants.{Start, Create, Ident,
 use Rattle.rules.specs.Numbers.{maxGeneration, successful, invalidName, invalidId, tooMany, invalidNumber, notDefined}
 use Rattle.rules.specs.Numbers.{resourceInUse, unsatisfied, incorrectState, calledFromIsr, invalidPriority, notOwnerOfResource, internalError}
 use Rattle.rules.specs.Numbers.{waiting}
-use Rattle.rules.specs.Machine.{Tables, slotOf, isLive, urgency, slotNamed, next}
+use Rattle.rules.specs.Machine.{Tables, taskOf, slotOf, waits, isLive, urgency, slotNamed, next}
 use Rattle.rules.specs.Agreement.{isReadyTask}
 use Rattle.rules.specs.Calls.{Outcome, upTo}
 use Rattle.rules.specs.Runs.{Request, stepOf}
@@ -113,6 +113,18 @@ becomesReady t u q = isReadyTask u q and isnt (isReadyTask t q)
 -- the sequence that a call leaves: those that were ready before and still are, in their old order, and then those that it made ready
 unfoldable pub sequenceAfter : Tables → Call → Tables → List ℕ
 sequenceAfter t call u = those (isReadyTask u) (t .ready) ++ those (becomesReady t u) (joining t call u)
+
+-- ---- how long a wait goes on
+
+-- how many calls of a run are ticks
+unfoldable pub ticksAmong : List Request → ℕ
+ticksAmong [] = 0
+ticksAmong (r ∷ rs) = bit (eqb (kindOf (r .call)) (kindOf Tick)) + ticksAmong rs
+
+-- task q waits before a run and after each of its calls
+unfoldable pub waitsThrough : Tables → ℕ → List Request → Bool
+waitsThrough t q [] = waits (taskOf t q)
+waitsThrough t q (r ∷ rs) = waits (taskOf t q) and waitsThrough (stepOf t r .tables) q rs
 
 -- ---- identifiers and slots that do not come back
 

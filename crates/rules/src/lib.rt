@@ -54,6 +54,13 @@ pub const MAX_GENERATION: u32 = 65535;
 
 pub const MAX_NUMBER: u32 = 4294967295;
 
+// Timeouts that are no number of ticks, and the standard limit in ticks.
+pub const STANDARD_TIMEOUT: u32 = 0;
+
+pub const STANDARD_LIMIT: u32 = 500;
+
+pub const NO_TIMEOUT: u32 = 4294967295;
+
 // An identifier is its generation times this, and its slot.
 pub const GENERATION_UNIT: u32 = 65536;
 
@@ -126,7 +133,10 @@ pub fn wait_of(options: u32, timeout: u32) -> Wait
     if options % 2 == 1 {
         return Wait::Poll;
     }
-    if timeout == 0 {
+    if timeout == STANDARD_TIMEOUT {
+        return Wait::Ticks(STANDARD_LIMIT);
+    }
+    if timeout == NO_TIMEOUT {
         return Wait::Forever;
     }
     Wait::Ticks(timeout)

@@ -19,12 +19,12 @@ use Rattle.rules.specs.Agreement.{Agrees, agrees}
 use Rattle.rules.specs.Fits.{callFits}
 use Rattle.rules.proofs.Invariants.Agreeing.{true-agrees, sizes-within}
 use Rattle.rules.proofs.Invariants.Refusals.{must}
+use Rattle.rules.proofs.Waits.{wait-fits}
 use Rattle.sections.specs.Scripts.{Section, Script, Memory, scriptAt, sectionAt}
 use Rattle.sections.specs.Scripts.Step.{NoStep}
 use Rattle.sections.specs.Run.{Event}
 use Rattle.sections.specs.Run.Event.{NoEvent}
 use Rattle.sections.specs.Refusals.{Input, eachScript, eachSection, eachEvent, limitsFit, stepsFit, oneScriptEach, isEvent, isGuard, isReady, isAllowed, refusal, eventFits, inputFits}
-use Rattle.sections.proofs.Events.{wait-fits}
 use Rattle.encoding.specs.declared.Row.{Row}
 use Rattle.encoding.specs.Rows.{rowAt, rowsOf, noRow, beginsScript, beginsSection, sectionOf, sectionsFrom, noSection, scriptOf, scriptsFrom, scriptsOf}
 use Rattle.encoding.specs.Events.{callOf, eventSize, eventAt, eventsFrom, eventsOf}

@@ -23,6 +23,7 @@ use Rattle.rules.specs.Runs.{Request}
 use Rattle.rules.specs.Fits.{fits, waitFits, callFits}
 use Rattle.rules.proofs.Invariants.Facts.{Facts}
 use Rattle.rules.proofs.Invariants.FromTests.{agrees-facts}
+use Rattle.rules.proofs.Waits.{wait-fits}
 use Rattle.rules.proofs.History.Used.{Used}
 use Rattle.sections.specs.Scripts.{Step, Section, Script, Memory, Grant, scriptAt, sectionAt, indexOf, stepsOf, doStep, doSteps}
 use Rattle.sections.specs.Scripts.Step.{NoStep}
@@ -39,12 +40,6 @@ use Rattle.sections.proofs.Indices.{index-task}
 use Rattle.sections.proofs.Serial.{grantOf, isOpenAt, restOf, same-script, step-taken}
 use Rattle.sections.proofs.Serial.Move.{passes}
 use Rattle.sections.proofs.Kept.{OfSection, Fixed, Sound, move-said, numbered, own-ids, back-of, granted-seen, Goes, goes-seen, Next, called-next}
-
-pub wait-fits : (options timeout : ℕ) → timeout ≤ maxNumber → waitFits (waitOf options timeout) ≡ true
-unfolding waitOf
-wait-fits options timeout h =
-    choose-cases (λ (z : Wait). waitFits z ≡ true) (eqb (options % 2) 1) _ _ (λ e. refl)
-    (λ e. choose-cases (λ (z : Wait). waitFits z ≡ true) (eqb timeout 0) _ _ (λ e. refl) (λ e. le-leb timeout maxNumber h))
 
 -- a used identifier is a number of 32 bits
 id-fits : (t : Tables) → Facts t → (x : ℕ) → Used t x → x ≤ maxNumber

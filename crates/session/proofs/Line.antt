@@ -10,11 +10,10 @@ use lib.ListN.{length, getD, drop}
 use borrow.Author.Tests.{le-leb, lt-leb, leb-true}
 use Rattle.laws.specs.Choose.{choose}
 use Rattle.laws.proofs.Choose.{if-no, choose-cases, and-both, both-and}
-use Rattle.rules.specs.declared.Wait.{Wait}
 use Rattle.rules.specs.Numbers.{maxNumber}
-use Rattle.rules.specs.Semaphore.{waitOf}
 use Rattle.rules.specs.Runs.{Request}
-use Rattle.rules.specs.Fits.{waitFits, callFits}
+use Rattle.rules.specs.Fits.{callFits}
+use Rattle.rules.proofs.Waits.{wait-fits}
 use Rattle.line.specs.Line.{fields, isNumber, areNumbers, numbers, requestOf, lineOf}
 
 numbers-fit : (fs : List (List ℕ)) → areNumbers fs ≡ true → (i : ℕ) → getD (numbers fs) i 0 ≤ maxNumber
@@ -22,12 +21,6 @@ unfolding areNumbers numbers isNumber
 numbers-fit [] e i = omega arith
 numbers-fit (f ∷ fs) e zero = leb-true _ _ (and-both _ _ (and-both _ _ (and-both _ _ (and-both _ _ e .0) .1) .1) .1)
 numbers-fit (f ∷ fs) e (suc i) = numbers-fit fs (and-both _ _ e .1) i
-
-wait-fits : (options timeout : ℕ) → timeout ≤ maxNumber → waitFits (waitOf options timeout) ≡ true
-unfolding waitOf
-wait-fits options timeout h =
-    choose-cases (λ (w : Wait). waitFits w ≡ true) _ _ _ (λ _. refl)
-    (λ _. choose-cases (λ (w : Wait). waitFits w ≡ true) _ _ _ (λ _. refl) (λ _. le-leb timeout maxNumber h))
 
 -- a request's call has numbers that a u32 holds
 abbrev pub Fitting : Option Request → Type 0

@@ -29,8 +29,8 @@ example =
     ∷ 108 ∷ 111 ∷ 99 ∷ 97 ∷ 108 ∷ 32 ∷ 49 ∷ 32 ∷ 49 ∷ 32 ∷ 53 ∷ 10
     -- script 1
     ∷ 115 ∷ 99 ∷ 114 ∷ 105 ∷ 112 ∷ 116 ∷ 32 ∷ 49 ∷ 10
-    -- section 65537 0 0
-    ∷ 115 ∷ 101 ∷ 99 ∷ 116 ∷ 105 ∷ 111 ∷ 110 ∷ 32 ∷ 54 ∷ 53 ∷ 53 ∷ 51 ∷ 55 ∷ 32 ∷ 48 ∷ 32 ∷ 48 ∷ 10
+    -- section 65537 0 4294967295
+    ∷ 115 ∷ 101 ∷ 99 ∷ 116 ∷ 105 ∷ 111 ∷ 110 ∷ 32 ∷ 54 ∷ 53 ∷ 53 ∷ 51 ∷ 55 ∷ 32 ∷ 48 ∷ 32 ∷ 52 ∷ 50 ∷ 57 ∷ 52 ∷ 57 ∷ 54 ∷ 55 ∷ 50 ∷ 57 ∷ 53 ∷ 10
     -- load 0 0
     ∷ 108 ∷ 111 ∷ 97 ∷ 100 ∷ 32 ∷ 48 ∷ 32 ∷ 48 ∷ 10
     -- add 1 0
@@ -69,7 +69,7 @@ pub example-says : readText room example ≡ Says (record {
   ids = 65537 ∷ [];
   cells = 100 ∷ [];
   locals = 0 ∷ 5 ∷ replicate 254 0;
-  scripts = 1 ∷ 1 ∷ 0 ∷ 0 ∷ 2 ∷ 65537 ∷ 0 ∷ 0 ∷ 3 ∷ 0 ∷ 0 ∷ 0 ∷ 6 ∷ 1 ∷ 0 ∷ 0 ∷ 4 ∷ 0 ∷ 0 ∷ 0 ∷ [];
+  scripts = 1 ∷ 1 ∷ 0 ∷ 0 ∷ 2 ∷ 65537 ∷ 0 ∷ 4294967295 ∷ 3 ∷ 0 ∷ 0 ∷ 0 ∷ 6 ∷ 1 ∷ 0 ∷ 0 ∷ 4 ∷ 0 ∷ 0 ∷ 0 ∷ [];
   events = 1 ∷ 1 ∷ 1 ∷ 1 ∷ 1 ∷ 1 ∷ 1 ∷ 1 ∷ 1 ∷ 1 ∷ [];
 })
 unfolding choose fields allDigits spelled isNumber areNumbers numbers sameBytes lines eventWord scriptPart wordNumber takes countFits saidBy

@@ -1,3 +1,5 @@
+pub mod Waits
+pub mod WaitsInBytes
 pub mod Theorems
 pub mod StateFile
 pub mod BesideTheList

@@ -13,13 +13,15 @@ use Rattle.laws.specs.Choose.{choose, _and_}
 use Rattle.laws.specs.Rows.{tabulate}
 use Rattle.words.proofs.WordsInBytes.{Bytes, Words}
 use Rattle.rules.specs.declared.Call.{Call}
-use Rattle.rules.specs.declared.Call.the-variants.{Create, Ident, Delete, Release}
+use Rattle.rules.specs.declared.Call.the-variants.{Create, Ident, Delete, Obtain, Release, Tick}
+use Rattle.rules.specs.declared.Wait.the-variants.{Poll, Forever, Ticks}
 use Rattle.rules.specs.Numbers.{maxGeneration, isBinary}
-use Rattle.rules.specs.Machine.{Tables, unstarted, withTasks, withReady, slotOf, isLive, idOf, names, next}
+use Rattle.rules.specs.Machine.{Tables, unstarted, withTasks, withReady, taskOf, slotOf, isLive, idOf, names, next}
 use Rattle.rules.specs.Agreement.{Agrees}
+use Rattle.rules.specs.Semaphore.{waitOf}
 use Rattle.rules.specs.Calls.{anyCaller, searchedSlots, step}
 use Rattle.rules.specs.Runs.{Request, after, answers}
-use Rattle.rules.specs.Promises.{Refusal, IsRefusal, listed, isIn, SomeGives, NextIs, sequenceAfter, NeverAgain}
+use Rattle.rules.specs.Promises.{Refusal, IsRefusal, listed, isIn, SomeGives, NextIs, sequenceAfter, ticksAmong, waitsThrough, NeverAgain}
 use Rattle.rules.specs.Fits.{callFits, callsFit}
 use Rattle.rules.proofs.Refusals.{refusal-keeps}
 use Rattle.rules.proofs.Statuses.{listed-given}
@@ -62,6 +64,8 @@ use Rattle.encoding.specs.Laid.{memory, laidPlaces, laidGrants}
 use Rattle.refusals.specs.Defined.{inputOf}
 use Rattle.runner.specs.Reply.{refusalOf, ran, runReply}
 use Rattle.runner.proofs.Demands.{ending, ending-held, lent-serial, refused-lent}
+use Rattle.theorems.proofs.Waits as waits
+use Rattle.theorems.proofs.WaitsInBytes as lasting
 
 -- ---- demand 1: every call is defined; a refusal changes nothing; tables that contradict themselves get 25 and no next task
 
@@ -185,6 +189,46 @@ pub unsatisfied-release-exactly : (t : Tables) → Agrees t → (caller id : ℕ
     (step t (Release caller id) priorities .answer .status ≡ 13)
     ↔ ((anyCaller t caller 0 ≡ 0) × (names t id ≡ true) × (isBinary (s .attributes) ≡ false) × (s .count ≡ s .maximum))
 unsatisfied-release-exactly = maxima.release-at-maximum
+
+-- request 6: how options and timeout give a wait. An odd number of options is NO_WAIT, and hears no timeout; otherwise 0 is the standard limit, 500 ticks,
+-- 4294967295 is for ever, and any other timeout is that many ticks
+pub no-wait-ignores-timeouts : (options : ℕ) → options % 2 ≡ 1 → (timeout : ℕ) → waitOf options timeout ≡ Poll
+no-wait-ignores-timeouts = lasting.no-wait
+
+pub timeouts-told-apart : (options : ℕ) → options % 2 ≡ 0
+    → (waitOf options 0 ≡ Ticks 500) × (waitOf options 4294967295 ≡ Forever)
+    × ((timeout : ℕ) → timeout ≢ 0 → timeout ≢ 4294967295 → waitOf options timeout ≡ Ticks timeout)
+timeouts-told-apart options even = (lasting.standard-wait options even, lasting.endless-wait options even, lasting.timed-wait options even)
+
+-- an obtain that is answered 100 had no NO_WAIT; it leaves bytes that agree, and in them its caller waits with so many ticks left, 0 for ever
+pub wait-begins : (bs : List ℕ) → Bytes bs → (caller id options timeout : ℕ) (priorities : List ℕ) → callFits (Obtain caller id (waitOf options timeout)) ≡ true
+    → let r = replyTo bs (Obtain caller id (waitOf options timeout)) priorities in r .answer .status ≡ 100
+    → let v = taskOf (modelOf (r .bytes)) caller in
+    (options % 2 ≡ 0) × (agreesBytes (r .bytes) ≡ true) × (v .answer ≡ 100)
+    × (v .ticks ≡ choose (eqb timeout 0) 500 (choose (eqb timeout 4294967295) 0 timeout))
+wait-begins = lasting.wait-begun
+
+-- while a task's wait goes on, through any calls and ticks, the next tick ends it, with answer 6, exactly if that is the last of the ticks it had left; 0 left
+-- is for ever. So of every wait in agreeing bytes, also of one from before the request or from a state file
+pub tick-ends-a-wait : (bs : List ℕ) → Bytes bs → agreesBytes bs ≡ true → (q : ℕ) (requests : List Request) → callsFit requests ≡ true
+    → waitsThrough (modelOf bs) q requests ≡ true → (priorities : List ℕ)
+    → taskOf (modelOf (replyTo (replies bs requests .bytes) Tick priorities .bytes)) q .answer
+    ≡ choose (eqb (suc (ticksAmong requests)) (taskOf (modelOf bs) q .ticks)) 6 100
+tick-ends-a-wait bs b a = lasting.tick-ends (entries.agreeing-tested bs b .0 a)
+
+-- so nobody waits for ever by accident: with any timeout but 4294967295 a wait that goes on has seen fewer ticks than it was given, with 0 fewer than 500
+pub no-wait-for-ever-by-accident : (bs : List ℕ) → Bytes bs → (caller id options timeout : ℕ) (priorities : List ℕ)
+    → callFits (Obtain caller id (waitOf options timeout)) ≡ true
+    → let r = replyTo bs (Obtain caller id (waitOf options timeout)) priorities in r .answer .status ≡ 100 → timeout ≢ 4294967295
+    → (requests : List Request) → callsFit requests ≡ true → waitsThrough (modelOf (r .bytes)) caller requests ≡ true
+    → ticksAmong requests < choose (eqb timeout 0) 500 timeout
+no-wait-for-ever-by-accident = lasting.bounded
+
+-- computed: two tasks wait with timeout 0 and with 4294967295; the ticks kept, and the tasks' answers before 600 ticks and after each. Both still wait after
+-- 499, the 500th ends the first with 6, and none ends the second
+pub standard-limit-case : (map (λ v. v .ticks) (tablesOf waits.waiters .tasks) ≡ 500 ∷ 0 ∷ [])
+    × (waits.answersAlong (tablesOf waits.waiters) (replicate 600 (ask Tick)) ≡ replicate 500 (100 ∷ 100 ∷ []) ++ replicate 101 (6 ∷ 100 ∷ []))
+standard-limit-case = (waits.waiters-kept, waits.standard-limit)
 
 -- agreement is kept by every call and tick, and by every run of entry points over the bytes
 pub agreement-kept : (t : Tables) (call : Call) (priorities : List ℕ) → callFits call ≡ true → Agrees t → Agrees (step t call priorities .tables)

@@ -2,7 +2,8 @@
 
 use crate::call::Call;
 use crate::fuzz::cases::{Case, Named};
-use crate::layout::{self, COUNT, MAXIMUM};
+use crate::layout::{set_word, slot_at, COUNT, MAXIMUM};
+use crate::status::FOREVER;
 
 pub const CASES: [Named; 7] = [
     ("a queue of twelve places", |case| {
@@ -11,17 +12,17 @@ pub const CASES: [Named; 7] = [
         case.interrupt(65537, 1);
         case.release(0, 65537, [13, 0, 1]);
         case.release(1, 65537, [13, 0, 1]);
-        case.obtain(1, 65537, 0, [0, 0, 1]);
+        case.obtain(1, 65537, FOREVER, [0, 0, 1]);
         case.interrupt(65537, 1);
         case.release(1, 65537, [13, 0, 1]);
-        holds(case, COUNT, 12);
+        case.holds(slot_at(0) + COUNT, 12);
     }),
     ("a waiter is served whatever the maximum", |case| {
         case.start(1, &[1, 2], 1);
         case.create_up_to([1, 9, 0, 4, 1], [0, 65537, 1]);
-        case.obtain(1, 65537, 0, [100, 0, 2]);
+        case.obtain(1, 65537, FOREVER, [100, 0, 2]);
         case.release(2, 65537, [0, 0, 1]);
-        holds(case, COUNT, 0);
+        case.holds(slot_at(0) + COUNT, 0);
         case.release(2, 65537, [0, 0, 1]);
         case.release(2, 65537, [13, 0, 1]);
     }),
@@ -65,11 +66,11 @@ pub const CASES: [Named; 7] = [
     ("a freed slot has no maximum", |case| {
         case.start(1, &[1], 1);
         case.create_up_to([1, 9, 0, 0, 12], [0, 65537, 1]);
-        holds(case, MAXIMUM, 12);
+        case.holds(slot_at(0) + MAXIMUM, 12);
         case.expect(Call::Delete { caller: 1, id: 65537 }, 0, 0, 1);
-        holds(case, MAXIMUM, 0);
+        case.holds(slot_at(0) + MAXIMUM, 0);
         case.create_up_to([1, 9, 1, 32, 1], [0, 131073, 1]);
-        holds(case, MAXIMUM, 1);
+        case.holds(slot_at(0) + MAXIMUM, 1);
     }),
     ("maxima that do not agree", |case| {
         case.start(2, &[1], 1);
@@ -94,14 +95,5 @@ pub const CASES: [Named; 7] = [
 ];
 
 fn set_maximum(case: &mut Case, index: usize, maximum: u32) {
-    layout::set_word(case.tables.bytes_mut(), layout::slot_at(index) + MAXIMUM, maximum);
-}
-
-/// The first slot has this number in this word.
-fn holds(case: &mut Case, field: usize, wanted: u32) {
-    let found = layout::word(case.tables.bytes(), layout::slot_at(0) + field);
-    if found != wanted && case.failed.is_none() {
-        let name = layout::word_name(layout::slot_at(0) + field);
-        case.failed = Some(format!("{name}: the rules say {wanted}, got {found}"));
-    }
+    set_word(case.tables.bytes_mut(), slot_at(index) + MAXIMUM, maximum);
 }

@@ -16,5 +16,9 @@ returns-3 : tie.Need-returns-3
 unfolding waitOf
 returns-3 c = search cases
 
+returns-4 : tie.Need-returns-4
+unfolding waitOf
+returns-4 c = search cases
+
 pub wait-of-spec : {M : Type 1} → statement M
-wait-of-spec = tie.close (tie.spec returns returns-2 returns-3)
+wait-of-spec = tie.close (tie.spec returns returns-2 returns-3 returns-4)
