@@ -41,11 +41,11 @@
  * the standard limit, 500 ticks, and 4294967295, which was that many ticks, is for ever. Source that
  * says MAST_NO_TIMEOUT still waits for ever once it is compiled anew; an object from before hands over
  * 0 and waits 500 ticks, so compile all of it with this header and link this library. A literal 0, or
- * one that is computed or left in cleared memory, now waits 500 ticks at the most and ends with
- * MAST_TIMEOUT, also in the rows and events of mast_run: where for ever is meant say MAST_NO_TIMEOUT,
- * keep it in a uint32_t, and ask for it by its name. MAST_NO_WAIT and the calls of mastclover_itron.h
- * are as they were. Tables and state files from before stay valid: 0 ticks left is for ever there, as
- * it was.
+ * one that is computed or left in cleared memory, now waits 500 ticks at the most, and ends with
+ * MAST_TIMEOUT if nothing ends the wait before; so too in the rows and events of mast_run. Where for
+ * ever is meant say MAST_NO_TIMEOUT, keep it in a uint32_t, and compare with MAST_NO_TIMEOUT, not with
+ * 0. MAST_NO_WAIT and the calls of mastclover_itron.h are as they were. Tables and state files from
+ * before stay valid: 0 ticks left is for ever there, as it was.
  *
  * Identifiers are generation * 65536 + slot, with slots from 1. A slot's generation goes up by one
  * with each create, so the identifier of a deleted semaphore is never given again, and a slot freed
@@ -296,9 +296,9 @@ mast_answer mast_release(uint8_t *tables, size_t length, uint32_t caller, mast_i
 mast_answer mast_flush(uint8_t *tables, size_t length, uint32_t caller, mast_id id);
 
 /*
- * One tick of the clock, usually from its interrupt. Every wait with a timeout loses one tick; one
- * that had a single tick left ends with answer MAST_TIMEOUT. If several end, they end in the order of
- * the tasks' numbers.
+ * One tick of the clock, usually from its interrupt. Every wait but one for ever loses one tick;
+ * one that had a single tick left ends with answer MAST_TIMEOUT. If several end, they end in the order
+ * of the tasks' numbers.
  *
  *   MAST_INTERNAL_ERROR    the tables are damaged or have the wrong length
  *   MAST_SUCCESSFUL

@@ -166,7 +166,7 @@ def main():
     faults += [f"{name} is missing; it is {value}" for name, value in wanted.items() if name not in given]
     both = given.keys() & wanted.keys()
     faults += [f"{n} is {given[n]}, and by the definitions {wanted[n]}" for n in sorted(both) if given[n] != wanted[n]]
-    told, limit = re.findall(r"\b(\d+) ticks(?! left)", header.read_text()), standard_wait()[1]
+    told, limit = re.findall(r"\b(\d+)(?:\s|\*)+ticks\b(?! left)", header.read_text()), standard_wait()[1]
     faults += [f"{n} ticks are told of, and the standard limit is {limit}" for n in told if int(n) != limit]
     faults += ["the ticks of the standard limit are not told of"] if "MAST_STANDARD_TIMEOUT" in wanted and not told else []
     print("\n".join(faults) if faults else f"{len(given)} constants")

@@ -69,18 +69,19 @@ static void begin(uint32_t standard)
 
 static void tick_to_the_limit(const char *what)
 {
-    expect(what, ticks_left(STANDARD), LIMIT);
-    expect(what, ticks_left(FOREVER), 0);
-    expect(what, ticks_left(LONGEST), MAST_NO_TIMEOUT - 1);
+    printf("%s\n", what);
+    expect("ticks of the standard limit", ticks_left(STANDARD), LIMIT);
+    expect("ticks of no timeout", ticks_left(FOREVER), 0);
+    expect("ticks of the longest", ticks_left(LONGEST), MAST_NO_TIMEOUT - 1);
     tick(1);
-    expect(what, answer_of(SHORT), MAST_TIMEOUT);
+    expect("one tick after the first", answer_of(SHORT), MAST_TIMEOUT);
     tick(LIMIT - 2);
-    expect(what, answer_of(STANDARD), MAST_WAITING);
+    expect("the standard limit after 499", answer_of(STANDARD), MAST_WAITING);
     tick(1);
-    expect(what, answer_of(STANDARD), MAST_TIMEOUT);
+    expect("the standard limit after 500", answer_of(STANDARD), MAST_TIMEOUT);
     tick(LIMIT);
-    expect(what, answer_of(FOREVER), MAST_WAITING);
-    expect(what, ticks_left(LONGEST), MAST_NO_TIMEOUT - 1 - 2 * LIMIT);
+    expect("no timeout after 1000", answer_of(FOREVER), MAST_WAITING);
+    expect("ticks of the longest after 1000", ticks_left(LONGEST), MAST_NO_TIMEOUT - 1 - 2 * LIMIT);
 }
 
 static void load_what_was_saved(void)

@@ -189,7 +189,7 @@ fn waits_for_ever_with_a_limit() {
     }
 }
 
-/// A poll that says how long to wait, and not that it does not: timeout 0 is the standard limit.
+/// A poll handed on without NO_WAIT: timeout 0 is then the standard limit.
 #[test]
 fn polls_that_wait() {
     found_both_ways(found_by_cases(|tables, list, service| match service {

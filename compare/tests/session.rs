@@ -3,6 +3,8 @@
 use std::fs;
 use std::path::PathBuf;
 
+use compare::call::Call;
+use compare::fuzz::coverage::Waits;
 use compare::fuzz::rng::Rng;
 use compare::model::Machine;
 use compare::session::lines::{line_of, random_session};
@@ -30,7 +32,7 @@ fn equals_of_the_paper() {
     session(input, "0 0 1\n0 65537 1\n100 0 2\n0 0 2\n");
 }
 
-/// Task 1 waits with this timeout; so many ticks later task 2 asks who is next.
+/// Task 1 waits with this timeout; who is next so many ticks later.
 fn next_after(timeout: &str, ticks: usize) -> u8 {
     let begun = format!("start 1 10 20\ncreate 2 77 0 0 9\nobtain 1 65537 0 {timeout}\n");
     let input = begun + &"tick\n".repeat(ticks) + "ident 77";
@@ -189,15 +191,24 @@ fn session_of_the_model(input: &[u8]) -> Vec<u8> {
     output
 }
 
+/// Whether a wait with the standard limit comes to its end in a session.
+fn has_standard_end(input: &[u8]) -> bool {
+    let (mut machine, mut waits) = (Machine::default(), Waits::default());
+    input.split(|&byte| byte == b'\n').filter_map(parse_line).any(|call| {
+        let answer = machine.call(&call);
+        let ended = waits.saw(&call, answer, &machine);
+        call == Call::Tick && ended.iter().any(|(_, wait)| wait.is_standard_at_end())
+    })
+}
+
 #[test]
 fn the_standard_limit_runs_out_in_long_sessions() {
-    let limit = "tick\n".repeat(499);
     let long = (0..40).map(|seed| random_session(seed, 800));
-    let bursts = long.filter(|input| {
+    let ends = long.filter(|input| {
         assert_eq!(run_session(input), session_of_the_model(input));
-        String::from_utf8_lossy(input).contains(&limit)
+        has_standard_end(input)
     });
-    assert!(bursts.count() > 5);
+    assert!(ends.count() > 3);
 }
 
 #[test]

@@ -12,7 +12,7 @@ use compare::session::lines::random_session;
 use compare::session::run_session;
 
 const USAGE: &str = "usage: compare_session PROGRAM [SECONDS [SEED]]";
-/// Lines of a session, and of every sixteenth, in which waits of the standard limit run out.
+/// Lines of a session; every sixteenth is long enough for waits of the standard limit to run out.
 const LINES: usize = 200;
 const LONG: usize = 800;
 const LONG_EVERY: u64 = 16;

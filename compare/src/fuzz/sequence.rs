@@ -9,7 +9,7 @@ use crate::layout::{self, *};
 use crate::model::{identifier, Class, Machine, State};
 use crate::status::*;
 
-/// How often in a hundred a wait with the standard limit or for ever is followed by as many ticks as that limit has.
+/// How often in a hundred a wait with the standard limit or for ever is followed by about as many ticks as that limit has.
 const BURSTS: usize = 2;
 
 /// A sequence under way: the machine, and the bytes that have to be lent then.

@@ -23,7 +23,7 @@ const WEIGHTS: [[u32; 10]; 4] = [
     [50, 4, 8, 8, 4, 12, 12, 1, 0, 1],
 ];
 
-/// How often in a hundred a section's wait with the standard limit or for ever is followed by as many ticks as that limit has.
+/// How often in a hundred a section's wait with the standard limit or for ever is followed by about as many ticks as that limit has.
 const BURSTS: usize = 8;
 
 /// The text of a random run; the same seed gives the same text.

@@ -7,7 +7,7 @@ use crate::fuzz::workload;
 use crate::model::Machine;
 use crate::session::{parse_line, LONGEST_LINE};
 
-/// How often in a hundred a wait with the standard limit or for ever is followed by as many ticks as that limit has, if there is
+/// How often in a hundred a wait with the standard limit or for ever is followed by about as many ticks as that limit has, if there is
 /// room for them.
 const BURSTS: usize = 20;
 

@@ -190,8 +190,8 @@ pub unsatisfied-release-exactly : (t : Tables) → Agrees t → (caller id : ℕ
     ↔ ((anyCaller t caller 0 ≡ 0) × (names t id ≡ true) × (isBinary (s .attributes) ≡ false) × (s .count ≡ s .maximum))
 unsatisfied-release-exactly = maxima.release-at-maximum
 
--- request 6: how options and timeout give a wait. An odd number of options is NO_WAIT, and hears no timeout; otherwise 0 is the standard limit, 500 ticks,
--- 4294967295 is for ever, and any other timeout is that many ticks
+-- request 6: how options and timeout give a wait. Odd options are NO_WAIT, whatever the timeout; otherwise 0 is the standard limit, 500 ticks, 4294967295 is
+-- for ever, and any other timeout is that many ticks
 pub no-wait-ignores-timeouts : (options : ℕ) → options % 2 ≡ 1 → (timeout : ℕ) → waitOf options timeout ≡ Poll
 no-wait-ignores-timeouts = lasting.no-wait
 
@@ -208,8 +208,8 @@ pub wait-begins : (bs : List ℕ) → Bytes bs → (caller id options timeout : 
     × (v .ticks ≡ choose (eqb timeout 0) 500 (choose (eqb timeout 4294967295) 0 timeout))
 wait-begins = lasting.wait-begun
 
--- while a task's wait goes on, through any calls and ticks, the next tick ends it, with answer 6, exactly if that is the last of the ticks it had left; 0 left
--- is for ever. So of every wait in agreeing bytes, also of one from before the request or from a state file
+-- while a task's wait goes on, through any of the eight calls, the next tick ends it, with answer 6, exactly if that is the last of the ticks it had left; 0
+-- left is for ever. This holds of every wait in agreeing bytes, also of one from before the request or from a state file
 pub tick-ends-a-wait : (bs : List ℕ) → Bytes bs → agreesBytes bs ≡ true → (q : ℕ) (requests : List Request) → callsFit requests ≡ true
     → waitsThrough (modelOf bs) q requests ≡ true → (priorities : List ℕ)
     → taskOf (modelOf (replyTo (replies bs requests .bytes) Tick priorities .bytes)) q .answer

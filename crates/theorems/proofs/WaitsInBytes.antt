@@ -52,7 +52,7 @@ module _ (options : ℕ) (even : options % 2 ≡ 0) where
   unfolding waitOf
   timed-wait timeout some ends = if-no _ _ may-wait ∙ if-no _ _ (ne-eqb timeout 0 some) ∙ if-no _ _ (ne-eqb timeout 4294967295 ends)
 
--- only an even number of options waits
+-- only even options wait
 waits-even : (options timeout : ℕ) → polls (waitOf options timeout) ≡ false → options % 2 ≡ 0
 waits-even options timeout may =
     ⊎-elim (λ (e : eqb (options % 2) 1 ≡ true). never (ap (λ (w : Wait). polls w) (odd e)) may)
