@@ -5,6 +5,7 @@ pub mod call;
 #[cfg(feature = "library")]
 pub mod ffi;
 pub mod fuzz;
+pub mod history;
 pub mod inplace;
 pub mod itron;
 pub mod layout;
