@@ -9,6 +9,7 @@ use compare::layout::{set_sequence, task_at, word, READY, SEQUENCE};
 fn random_parts(comparison: &mut Comparison, sequences: u64) -> Result<(), Box<Difference>> {
     for seed in 0..sequences {
         let machine = sequence::run(comparison, seed)?;
+        sequence::run_grants(comparison, seed, &machine)?;
         damage::at_random(comparison, seed, &machine)?;
     }
     Ok(())
@@ -20,6 +21,7 @@ fn in_place_is_as_the_model() {
     let mut comparison = Comparison::new(&mut subject);
     random_parts(&mut comparison, 200).unwrap_or_else(|difference| panic!("{difference}"));
     assert_eq!(comparison.coverage.gaps(), [""; 0]);
+    assert_eq!(comparison.coverage.histories.gaps(), [""; 0]);
 }
 
 #[test]

@@ -56,6 +56,7 @@ fn run(comparison: &mut Comparison, settings: &Settings) -> Result<u64, Box<Diff
 
 fn random_part(comparison: &mut Comparison, seed: u64) -> Result<(), Box<Difference>> {
     let machine = sequence::run(comparison, seed)?;
+    sequence::run_grants(comparison, seed, &machine)?;
     damage::at_random(comparison, seed, &machine)
 }
 
@@ -85,7 +86,8 @@ fn main() -> ExitCode {
 /// A run that found no difference still fails if it missed something it had to see.
 fn finish(comparison: &Comparison, seed: u64, sequences: u64) -> ExitCode {
     print!("{}", comparison.coverage.table());
-    let gaps = comparison.coverage.gaps();
+    let mut gaps = comparison.coverage.gaps();
+    gaps.extend(comparison.coverage.histories.gaps());
     for gap in &gaps {
         println!("gap: {gap}");
     }

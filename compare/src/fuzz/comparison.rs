@@ -5,6 +5,7 @@ use std::fmt;
 use crate::call::{Answer, Call, Manager};
 use crate::fuzz::coverage::Coverage;
 use crate::fuzz::lent::Lent;
+use crate::history::{Broken, History};
 use crate::layout::{word, word_name, LENGTH};
 use crate::model::Machine;
 
@@ -16,7 +17,7 @@ pub struct Place {
     pub step: u64,
 }
 
-/// The first call on which the subject is not as this project's own code.
+/// The first call on which the subject is not as this project's own code, or after which a fact of the history does not hold.
 #[derive(Debug)]
 pub struct Difference {
     pub place: Place,
@@ -29,12 +30,15 @@ pub struct Difference {
     pub memory: Option<String>,
     /// The tables before the call, when they had been damaged.
     pub damage: Option<String>,
+    /// The fact that does not hold, where nothing differs.
+    pub broken: Option<Broken>,
 }
 
 impl fmt::Display for Difference {
     fn fmt(&self, out: &mut fmt::Formatter) -> fmt::Result {
         let Place { part, seed, step } = self.place;
-        writeln!(out, "difference in {part}: seed {seed}, step {step}")?;
+        let what = if self.broken.is_some() { "broken fact" } else { "difference" };
+        writeln!(out, "{what} in {part}: seed {seed}, step {step}")?;
         if let Some(damage) = &self.damage {
             writeln!(out, "  damage:      {damage}")?;
         }
@@ -47,7 +51,11 @@ impl fmt::Display for Difference {
         writeln!(out, "  independent: {}{wanted}", answer(self.expected))?;
         writeln!(out, "  library:     {}{counted}", answer(self.found))?;
         let memory = self.memory.as_deref().unwrap_or("no byte differs");
-        write!(out, "  tables:      {memory}")
+        write!(out, "  tables:      {memory}")?;
+        match &self.broken {
+            Some(broken) => write!(out, "\n  history:     {broken}"),
+            None => Ok(()),
+        }
     }
 }
 
@@ -87,6 +95,22 @@ impl<'a> Comparison<'a> {
         Ok(())
     }
 
+    /// Takes a call that was compared into the history, with the subject's own tables, and checks what has to hold of it.
+    pub fn account(
+        &mut self,
+        history: &mut History,
+        place: Place,
+        call: &Call,
+        answer: Answer,
+        tables: &[u8],
+    ) -> Result<(), Box<Difference>> {
+        history.saw(call, answer, tables, &mut self.coverage.histories).map_err(|broken| {
+            let (call, expected, found) = (call.clone(), answer, answer);
+            let (looked, memory, damage, broken) = (None, None, None, Some(broken));
+            Box::new(Difference { place, call, expected, found, looked, memory, damage, broken })
+        })
+    }
+
     fn say(&self, place: Place, call: &Call, how: &str) {
         if self.trace {
             eprintln!("{}, seed {}, step {}: {call:?}{how}", place.part, place.seed, place.step);
@@ -117,7 +141,8 @@ impl Expected<'_> {
         }
         let (call, expected) = (call.clone(), self.answer);
         let memory = memory_difference(lent, self.bytes);
-        Err(Box::new(Difference { place, call, expected, found, looked, memory, damage: None }))
+        let (damage, broken) = (None, None);
+        Err(Box::new(Difference { place, call, expected, found, looked, memory, damage, broken }))
     }
 }
 

@@ -11,6 +11,7 @@ pub use timeouts::Waits;
 use std::collections::BTreeMap;
 
 use crate::call::{Answer, Call, KINDS};
+use crate::history::seen::Seen;
 use crate::layout::{self, word, READY, SEQUENCE, WORDS};
 use crate::model::{Class, Machine, Order, Semaphore, State};
 use crate::status::*;
@@ -69,6 +70,8 @@ pub struct Coverage {
     statuses: BTreeMap<(usize, u32), u64>,
     happenings: BTreeMap<&'static str, u64>,
     waits: Waits,
+    /// What happened in the histories of the sequences, with gaps of their own.
+    pub histories: Seen,
 }
 
 impl Coverage {
@@ -242,6 +245,6 @@ impl Coverage {
         for (name, count) in &self.happenings {
             lines += &format!("  {count:>10} {name}\n");
         }
-        lines
+        lines + &self.histories.table()
     }
 }

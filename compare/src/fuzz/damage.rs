@@ -6,6 +6,7 @@ use crate::fuzz::generate::{Plan, TICKS_LEFT};
 use crate::fuzz::lent::Lent;
 use crate::fuzz::mutate::mutate;
 use crate::fuzz::rng::Rng;
+use crate::history::History;
 use crate::layout::{self, *};
 use crate::model::{Machine, State};
 use crate::status::{FOREVER, STANDARD};
@@ -38,7 +39,10 @@ fn probe(comparison: &mut Comparison, place: Place, calls: &[Call], lent: &mut L
                 let answer = machine.call(call);
                 let after = layout::write(&machine);
                 let expected = Expected { before: Some(before), answer, bytes: &after };
-                let compared = comparison.step(place, call, lent, &expected);
+                let mut history = History::begin(&bytes);
+                let compared = comparison
+                    .step(place, call, lent, &expected)
+                    .and_then(|()| comparison.account(&mut history, place, call, answer, lent.bytes()));
                 lent.bytes_mut().copy_from_slice(&bytes);
                 compared
             }

@@ -2,7 +2,7 @@
 
 use crate::call::{Answer, Call};
 use crate::fuzz::rng::Rng;
-use crate::model::{identifier, Class, Machine};
+use crate::model::{identifier, Class, Machine, Order, Slot};
 use crate::status::*;
 
 /// How one random sequence is drawn.
@@ -15,6 +15,8 @@ pub struct Plan {
     weights: [u32; 9],
     /// The share of obtains with NO_WAIT, in a hundred.
     polls: usize,
+    /// The share of releases that serve the longest FIFO queue, in a hundred.
+    served: usize,
     /// How a timeout is drawn.
     timeout: fn(&mut Rng) -> u32,
 }
@@ -30,6 +32,9 @@ const WEIGHTS: [[u32; 9]; 5] = [
     [1, 35, 4, 35, 12, 5, 2, 3, 3],
     [1, 12, 1, 12, 52, 4, 8, 8, 2],
 ];
+
+/// Weights of the calls of a run of grants.
+const GRANTING: [u32; 9] = [0, 3, 0, 1, 45, 42, 1, 8, 0];
 
 const ATTRIBUTES: [u32; 6] = [0, 4, 16, 20, 32, 36];
 const WRONG_ATTRIBUTES: [u32; 11] = [1, 2, 3, 8, 5, 48, 52, 64, 128, 0x104, u32::MAX];
@@ -49,6 +54,7 @@ impl Plan {
             priorities: (0..tasks).map(|_| rng.between(1, spread)).collect(),
             weights: rng.pick(&WEIGHTS),
             polls: rng.pick(&[5, 20]),
+            served: 0,
             timeout: draw_timeout,
         }
     }
@@ -56,7 +62,33 @@ impl Plan {
     /// A sequence that no wait for ever brings to a halt, with weights in the order of `KINDS`.
     pub fn steady(slots: u32, priorities: Vec<u32>, weights: [u32; 9]) -> Self {
         let timeout = |rng: &mut Rng| rng.pick(&[5, 20, 100, 500]);
-        Plan { steps: 0, edits: 0, slots, priorities, weights, polls: 10, timeout }
+        Plan { steps: 0, edits: 0, slots, priorities, weights, polls: 10, served: 0, timeout }
+    }
+
+    /// Obtains and releases on few semaphores.
+    pub fn granting(rng: &mut Rng) -> Self {
+        let tasks = rng.pick(&[2, 4, 8, 16, 32]);
+        Plan {
+            steps: 300,
+            edits: 0,
+            slots: rng.pick(&[1, 1, 2, 3]),
+            priorities: (0..tasks).map(|_| rng.between(1, 3)).collect(),
+            weights: GRANTING,
+            polls: 5,
+            served: 40,
+            timeout: draw_timeout,
+        }
+    }
+
+    /// A start, and a create of a counting or simple binary semaphore with a small count for every slot.
+    pub fn opening(&self, rng: &mut Rng) -> Vec<Call> {
+        let mut calls = vec![Call::Start { slots: self.slots, priorities: self.priorities.clone() }];
+        for slot in 1..=self.slots {
+            let attributes = rng.pick(&[0, 0, 4, 32, 32, 36]);
+            let count = rng.between(0, if attributes < SIMPLE_BINARY { 3 } else { 1 });
+            calls.push(Call::create(1, slot, count, attributes));
+        }
+        calls
     }
 
     /// The next call of the sequence.
@@ -76,7 +108,7 @@ impl Plan {
             2 => Call::Ident { name: draw_name(rng) },
             3 => Call::Delete { caller: draw_caller(rng, machine, 3), id: draw_id(rng, machine) },
             4 => self.draw_obtain(rng, machine),
-            5 => draw_release(rng, machine),
+            5 => self.draw_release(rng, machine),
             6 => Call::Flush { caller: draw_caller(rng, machine, 20), id: draw_id(rng, machine) },
             7 => Call::Tick,
             _ => Call::Task { task: draw_task(rng, machine) },
@@ -112,6 +144,30 @@ impl Plan {
         };
         Call::Obtain { caller, id, options, timeout: (self.timeout)(rng) }
     }
+
+    fn draw_release(&self, rng: &mut Rng, machine: &Machine) -> Call {
+        // Plans without such a share draw no number for it, so that their calls stay what they were.
+        if self.served > 0 && rng.chance(self.served) {
+            if let Some(id) = longest_queue(machine) {
+                return Call::Release { caller: 0, id };
+            }
+        }
+        let id = draw_id(rng, machine);
+        let caller = draw_caller(rng, machine, 20);
+        let owner = binary_owner(machine, id).filter(|_| rng.chance(70));
+        Call::Release { caller: owner.unwrap_or(caller), id }
+    }
+}
+
+/// The counting or simple binary semaphore with the most waiters in a FIFO queue, if there is any.
+fn longest_queue(machine: &Machine) -> Option<u32> {
+    let live = |(index, slot): (usize, &Slot)| {
+        let live = slot.live.as_ref()?;
+        let in_turn = live.class != Class::Binary && live.order == Order::Fifo;
+        in_turn.then(|| (live.queue.len(), identifier(slot.generation, index)))
+    };
+    let (length, id) = machine.slots.iter().enumerate().filter_map(live).max()?;
+    (length > 0).then_some(id)
 }
 
 /// A timeout that matters to the rules, two of three short.
@@ -161,13 +217,6 @@ fn draw_maximum(rng: &mut Rng, attributes: u32, count: u32) -> u32 {
         0 => rng.pick(&[1, 2, 12, count, count, above, u32::MAX, u32::MAX, u32::MAX, seldom]),
         _ => rng.pick(&[1, 1, 1, 1, 1, 1, 1, 1, seldom]),
     }
-}
-
-fn draw_release(rng: &mut Rng, machine: &Machine) -> Call {
-    let id = draw_id(rng, machine);
-    let caller = draw_caller(rng, machine, 20);
-    let owner = binary_owner(machine, id).filter(|_| rng.chance(70));
-    Call::Release { caller: owner.unwrap_or(caller), id }
 }
 
 // Few names, so that several slots bear the same.

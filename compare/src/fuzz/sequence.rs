@@ -5,6 +5,7 @@ use crate::fuzz::comparison::{Comparison, Difference, Expected, Place};
 use crate::fuzz::generate::{draw_ticks, Plan, TICKS_LEFT};
 use crate::fuzz::lent::Lent;
 use crate::fuzz::rng::Rng;
+use crate::history::History;
 use crate::layout::{self, *};
 use crate::model::{identifier, Class, Machine, State};
 use crate::status::*;
@@ -12,20 +13,33 @@ use crate::status::*;
 /// How often in a hundred a wait with the standard limit or for ever is followed by about as many ticks as that limit has.
 const BURSTS: usize = 2;
 
-/// A sequence under way: the machine, and the bytes that have to be lent then.
+/// Makes the seed of a sequence another one for the run of grants behind it.
+const GRANTS: u64 = 1 << 63;
+
+/// A sequence under way: the machine, the bytes that have to be lent then, and the history since the tables were last edited.
 struct Sequence<'a, 'b> {
     comparison: &'a mut Comparison<'b>,
     place: Place,
     machine: Machine,
     expected: Vec<u8>,
     lent: Lent,
+    history: History,
 }
 
-impl Sequence<'_, '_> {
+impl<'a, 'b> Sequence<'a, 'b> {
+    /// Begins on the tables of this machine.
+    fn begin(comparison: &'a mut Comparison<'b>, place: Place, machine: Machine, offset: usize) -> Self {
+        let expected = layout::write(&machine);
+        let lent = Lent::new(&expected, offset);
+        let history = History::begin(&expected);
+        Sequence { comparison, place, machine, expected, lent, history }
+    }
+
     fn edit(&mut self, rng: &mut Rng) {
         edit(rng, &self.machine, &mut self.expected);
         self.machine = layout::read(&self.expected).expect("an edit keeps the tables in agreement");
         self.lent.bytes_mut().copy_from_slice(&self.expected);
+        self.history = History::begin(&self.expected);
     }
 
     fn step(&mut self, call: &Call) -> Result<Answer, Box<Difference>> {
@@ -35,6 +49,7 @@ impl Sequence<'_, '_> {
         let wanted = Expected { before: Some(&before), answer, bytes: &self.expected };
         self.comparison.step(self.place, call, &mut self.lent, &wanted)?;
         self.comparison.coverage.saw(&before, call, answer, &self.machine);
+        self.comparison.account(&mut self.history, self.place, call, answer, self.lent.bytes())?;
         self.place.step += 1;
         Ok(answer)
     }
@@ -44,11 +59,8 @@ impl Sequence<'_, '_> {
 pub fn run(comparison: &mut Comparison, seed: u64) -> Result<Machine, Box<Difference>> {
     let mut rng = Rng::new(seed);
     let plan = Plan::draw(&mut rng);
-    let machine = Machine::default();
-    let expected = layout::write(&machine);
-    let lent = Lent::new(&expected, rng.below(4));
     let place = Place { part: "random sequences", seed, step: 0 };
-    let mut sequence = Sequence { comparison, place, machine, expected, lent };
+    let mut sequence = Sequence::begin(comparison, place, Machine::default(), rng.below(4));
     for _ in 0..plan.steps {
         if rng.chance(plan.edits) {
             sequence.edit(&mut rng);
@@ -60,6 +72,28 @@ pub fn run(comparison: &mut Comparison, seed: u64) -> Result<Machine, Box<Differ
         }
     }
     Ok(sequence.machine)
+}
+
+/// Runs obtains and releases on few semaphores, so that accounts grow long and queues are served: every other time on the machine
+/// that was found, else on a small one.
+pub fn run_grants(
+    comparison: &mut Comparison,
+    seed: u64,
+    found: &Machine,
+) -> Result<(), Box<Difference>> {
+    let mut rng = Rng::new(seed ^ GRANTS);
+    let place = Place { part: "grants", seed, step: 0 };
+    let small = found.tasks.is_empty() || rng.chance(50);
+    let (plan, machine) = (Plan::granting(&mut rng), if small { &Machine::default() } else { found });
+    let mut sequence = Sequence::begin(comparison, place, machine.clone(), rng.below(4));
+    if small {
+        plan.opening(&mut rng).iter().try_for_each(|call| sequence.step(call).map(|_| ()))?;
+    }
+    for _ in 0..plan.steps {
+        let call = plan.draw_call(&mut rng, &sequence.machine);
+        sequence.step(&call)?;
+    }
+    Ok(())
 }
 
 /// Writes numbers near their ends into tables, which still agree afterwards.
