@@ -5,6 +5,7 @@ use crate::fuzz::comparison::memory_difference;
 use crate::fuzz::generate::Plan;
 use crate::fuzz::lent::Lent;
 use crate::fuzz::rng::Rng;
+use crate::history::History;
 use crate::layout::{self, Model};
 use crate::state::seen::Seen;
 use crate::state::{load_or_fault, Keeper, EDITION};
@@ -65,7 +66,7 @@ impl<'a> Comparison<'a> {
         Ok(expected)
     }
 
-    /// Random calls on tables that were loaded.
+    /// Random calls on tables that were loaded, with which a history begins.
     pub fn go_on(
         &mut self,
         part: &'static str,
@@ -76,6 +77,7 @@ impl<'a> Comparison<'a> {
     ) -> Compared {
         let mut machine = layout::read(tables.bytes()).expect("loaded tables agree");
         let mut wanted = tables.bytes().to_vec();
+        let mut history = History::begin(tables.bytes());
         for step in 0..steps {
             let call = plan.draw_call(rng, &machine);
             let expected = machine.call(&call);
@@ -85,6 +87,8 @@ impl<'a> Comparison<'a> {
             let told = |said: String| format!("load, {part}, then step {step}, {call:?}: {said}");
             same_answer(expected, found).map_err(told)?;
             same_tables(tables, &wanted).map_err(told)?;
+            let held = history.saw(&call, found, tables.bytes(), &mut self.seen.histories);
+            held.map_err(|broken| told(broken.to_string()))?;
             let Call::Ident { name } = call else { continue };
             let (found, looked) = self.subject.ident_looked(tables.bytes_mut(), name);
             same_answer(expected, found).map_err(told)?;

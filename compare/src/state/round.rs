@@ -1,5 +1,6 @@
 //! One round: tables by random calls, their file saved and loaded, in edition 1 loaded alone, and every refusal.
 
+use crate::call::Call;
 use crate::fuzz::damage::bases;
 use crate::fuzz::generate::Plan;
 use crate::fuzz::lent::Lent;
@@ -12,7 +13,7 @@ use crate::state::comparison::{Compared, Comparison};
 use crate::state::seen::{loads, saves};
 use crate::state::write::{write, write_in};
 use crate::state::{CONTENTS, EDITION, LONGEST, OLD_EDITION};
-use crate::status::{greatest_maximum, SUCCESSFUL};
+use crate::status::{greatest_maximum, FOREVER, SUCCESSFUL};
 
 /// In as many seeds each of the tables that are not drawn at random comes once.
 const BASES_EVERY: u64 = 40;
@@ -48,7 +49,19 @@ pub fn round(comparison: &mut Comparison, seed: u64) -> Compared {
 }
 
 fn started_bases() -> Vec<Machine> {
-    bases().into_iter().filter(|base| !base.tasks.is_empty()).collect()
+    let started = bases().into_iter().filter(|base| !base.tasks.is_empty());
+    started.chain([two_queues()]).collect()
+}
+
+/// Five tasks wait for ever for a counting semaphore and five for a simple binary one, in FIFO queues; two are ready.
+fn two_queues() -> Machine {
+    let mut calls = vec![Call::Start { slots: 2, priorities: vec![4; 12] }];
+    calls.extend([0, 32].map(|attributes| Call::create(12, 9, 0, attributes)));
+    let wait = |caller| Call::Obtain { caller, id: 65537 + caller % 2, options: 0, timeout: FOREVER };
+    calls.extend((1..=10).map(wait));
+    let mut machine = Machine::default();
+    calls.iter().for_each(|call| _ = machine.call(call));
+    machine
 }
 
 /// A started machine by random calls and by edits that keep agreement.
@@ -145,6 +158,7 @@ impl Round<'_, '_> {
 
     fn loads(&mut self) -> Compared {
         let file = self.file.clone();
+        let granting = Plan::granting(&mut self.rng);
         for offset in 0..4 {
             let mut tables = Lent::new(&[0; LENGTH], offset);
             let lent = Lent::new(&file, 3 - offset);
@@ -152,7 +166,9 @@ impl Round<'_, '_> {
             if tables.bytes() != self.tables {
                 return Err(format!("load, {}: not the tables saved", loads::RIGHT));
             }
-            self.comparison.go_on(loads::RIGHT, &mut self.rng, &self.plan, &mut tables, 15)?;
+            // Every other time mostly obtains and releases, so that the waiters found are served.
+            let (plan, steps) = if offset % 2 == 0 { (&self.plan, 15) } else { (&granting, 60) };
+            self.comparison.go_on(loads::RIGHT, &mut self.rng, plan, &mut tables, steps)?;
         }
         let wrong = self.wrong_files();
         let mut started = vec![Lent::new(&self.tables, self.rng.below(4))];

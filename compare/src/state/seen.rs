@@ -3,6 +3,7 @@
 use std::collections::BTreeMap;
 
 use crate::call::Answer;
+use crate::history;
 use crate::model::{Class, Machine, State, Task};
 use crate::state::read::{only_maxima_are_wrong, Fault};
 use crate::state::{write, EDITION, LONGEST, OLD_EDITION};
@@ -109,6 +110,8 @@ pub struct Seen {
     loads: Counts<(&'static str, u32, u32)>,
     faults: Counts<(Fault, u32)>,
     happenings: Counts<&'static str>,
+    /// What happened in the histories that began with a load.
+    pub histories: history::seen::Seen,
 }
 
 impl Seen {
@@ -213,6 +216,7 @@ impl Seen {
         }
         let missing = HAPPENINGS.iter().filter(|name| !self.happenings.contains_key(*name));
         gaps.extend(missing.map(|name| format!("never: {name}")));
+        gaps.extend(self.histories.gaps_after_loads());
         gaps
     }
 
@@ -230,6 +234,7 @@ impl Seen {
         for (name, count) in &self.happenings {
             table += &format!("  {count:>10} {name}\n");
         }
+        table += &self.histories.table();
         let saves = self.saves.iter().map(|((_, status), count)| (*status, *count));
         table + &totals("saves", saves) + &self.load_totals()
     }
