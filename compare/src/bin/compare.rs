@@ -9,7 +9,7 @@ use compare::fuzz::comparison::{Comparison, Difference};
 use compare::fuzz::{cases, damage, sequence};
 
 /// Sequences that every run makes, so that all that has to occur does.
-const LEAST_SEQUENCES: u64 = 300;
+const LEAST_SEQUENCES: u64 = 600;
 
 const USAGE: &str = "usage: compare [--seconds SECONDS] [--seed SEED] [--trace]";
 

@@ -69,7 +69,7 @@ impl Plan {
     pub fn granting(rng: &mut Rng) -> Self {
         let tasks = rng.pick(&[2, 4, 8, 16, 32]);
         Plan {
-            steps: 300,
+            steps: 400,
             edits: 0,
             slots: rng.pick(&[1, 1, 2, 3]),
             priorities: (0..tasks).map(|_| rng.between(1, 3)).collect(),
@@ -84,7 +84,7 @@ impl Plan {
     pub fn opening(&self, rng: &mut Rng) -> Vec<Call> {
         let mut calls = vec![Call::Start { slots: self.slots, priorities: self.priorities.clone() }];
         for slot in 1..=self.slots {
-            let attributes = rng.pick(&[0, 0, 4, 32, 32, 36]);
+            let attributes = rng.pick(&[0, 4, 32, 36]);
             let count = rng.between(0, if attributes < SIMPLE_BINARY { 3 } else { 1 });
             calls.push(Call::create(1, slot, count, attributes));
         }
