@@ -129,17 +129,18 @@ impl History {
         Ok(())
     }
 
-    /// A wait in a FIFO queue ended by a grant, or by a tick, a flush or a delete with the answer that it gives.
+    /// A wait in a FIFO queue is ended by a release of its semaphore, which grants, or by a tick, a flush or a delete, each with its answer.
     fn check_endings(&self, event: &Event) -> Checked {
         for &(task, answer) in &event.ended {
             let Some((id, account, _)) = self.accounts.awaited_by(task) else { continue };
-            let otherwise = match event.call {
-                Call::Tick => TIMEOUT,
-                Call::Flush { id: flushed, .. } if flushed == id => UNSATISFIED,
-                Call::Delete { id: deleted, .. } if deleted == id => OBJECT_WAS_DELETED,
-                _ => SUCCESSFUL,
+            let ending = match event.call {
+                Call::Release { id: released, .. } if released == id => Some(SUCCESSFUL),
+                Call::Tick => Some(TIMEOUT),
+                Call::Flush { id: flushed, .. } if flushed == id => Some(UNSATISFIED),
+                Call::Delete { id: deleted, .. } if deleted == id => Some(OBJECT_WAS_DELETED),
+                _ => None,
             };
-            if account.order == Order::Fifo && answer != SUCCESSFUL && answer != otherwise {
+            if account.order == Order::Fifo && Some(answer) != ending {
                 let said = format!("the wait of task {task} ended with {answer}");
                 return broken(Fact::Turn, id, account, said);
             }

@@ -112,7 +112,7 @@ const JOINS_IN_FRONT: Serve = |tables, call| {
     })
 };
 
-const WRONG: [(&str, Fact, Serve); 17] = [
+const WRONG: [(&str, Fact, Serve); 18] = [
     ("a release raises the count and also wakes", Fact::Account, |tables, call| {
         and_then(tables, call, RELEASE, 0, |before, tables, at| {
             add_to_count(tables, at, u32::from(woke(before, at)))
@@ -175,6 +175,14 @@ const WRONG: [(&str, Fact, Serve); 17] = [
     }),
     ("a tick ends waits as a flush does", Fact::Turn, |tables, call| {
         tick_and_then(tables, call, |before, tables| answered(before, tables, 6, 13))
+    }),
+    ("a delete ends waits with 0", Fact::Turn, |tables, call| {
+        let before = tables.to_vec();
+        let answer = Untested.call(tables, call);
+        if let Call::Delete { .. } = call {
+            answered(&before, tables, 7, 0);
+        }
+        answer
     }),
     ("a release that is refused raises the count", Fact::Account, |tables, call| {
         and_then(tables, call, RELEASE, 13, |_, tables, at| add_to_count(tables, at, 1))
