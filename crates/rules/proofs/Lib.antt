@@ -11,4 +11,5 @@ pub mod Searching
 pub mod Looking
 pub mod Invariants
 pub mod Waits
+pub mod Accounting
 pub mod History

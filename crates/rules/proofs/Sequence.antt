@@ -148,7 +148,7 @@ module _ (t u : Tables) (before : Sequenced t) (after : Sequenced u) (call : Cal
       (those-none (λ q. leb 1 (occurs q [])) (joining t call u) (λ x h. lt-leb 1 (occurs x []) (omega (arith, occurs-none x))))
 
 -- a release wakes nobody, or the first of the queue
-wakes-first : (s : Slot) (caller : ℕ) → let q = giveStep s caller .woken in (q ≡ 0 → ⊥) → (1 ≤ length (s .queue)) × (q ≡ getD (s .queue) 0 0)
+pub wakes-first : (s : Slot) (caller : ℕ) → let q = giveStep s caller .woken in (q ≡ 0 → ⊥) → (1 ≤ length (s .queue)) × (q ≡ getD (s .queue) 0 0)
 unfolding giveStep passStep
 wakes-first s caller =
     choose-cases P _ _ _ (λ e n. absurd (n refl))

@@ -21,14 +21,14 @@ use Rattle.rules.specs.Calls.{Outcome, perform}
 use Rattle.rules.specs.Fits.{callFits}
 use Rattle.rules.proofs.Invariants.Facts.{nthTask, Facts}
 use Rattle.rules.proofs.Invariants.FromTests.{agrees-facts}
-use Rattle.rules.proofs.Invariants.Kept.{kept}
+use Rattle.rules.proofs.Invariants.Kept.{performs, kept}
 use Rattle.rules.proofs.Invariants.Links.{SameWait}
 use Rattle.sections.specs.Scripts.{Step, Script, Grant, scriptAt, sectionAt, indexOf}
 use Rattle.sections.specs.Run.{Place, at, State, placeAt, callerOf, obtainerOf, said, placeAfter, grantIf, called}
 use Rattle.sections.specs.Refusals.{Input}
 use Rattle.sections.proofs.Others.{Woken, Observed, handedTo}
 use Rattle.sections.proofs.Observing.{observed}
-use Rattle.sections.proofs.Standing.{Guard, idAt, Stand, performs, back, guard-kept, place-said, place-granted, place-skipped, unlike, not-obtainer, said-same, said-woken, stand-other}
+use Rattle.sections.proofs.Standing.{Guard, idAt, Stand, back, guard-kept, place-said, place-granted, place-skipped, unlike, not-obtainer, said-same, said-woken, stand-other}
 use Rattle.sections.proofs.Footprints.{AllSteps}
 use Rattle.sections.proofs.Indices.{some-or-none, rows-none, rows-one}
 use Rattle.sections.proofs.Serial.{Serial, Move, all-moved}

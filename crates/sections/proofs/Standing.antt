@@ -17,11 +17,11 @@ use Rattle.rules.specs.declared.Task.{Task}
 use Rattle.rules.specs.Numbers.{isBinary}
 use Rattle.rules.specs.Machine.{Tables, slotOf, waits, isLive, idOf, names}
 use Rattle.rules.specs.Agreement.{Agrees}
-use Rattle.rules.specs.Calls.{Outcome, perform, step}
+use Rattle.rules.specs.Calls.{Outcome, perform}
 use Rattle.rules.specs.Promises.{kindOf}
-use Rattle.rules.proofs.Invariants.Agreeing.{agrees-true}
 use Rattle.rules.proofs.Invariants.Facts.{nthTask, nthSlot, Facts, live-within}
 use Rattle.rules.proofs.Invariants.FromTests.{agrees-facts}
+use Rattle.rules.proofs.Invariants.Kept.{performs}
 use Rattle.rules.proofs.Invariants.Links.{SameWait}
 use Rattle.rules.proofs.Invariants.PartsKept.{below}
 use Rattle.rules.proofs.History.Forward.{Forward}
@@ -120,10 +120,6 @@ module _ (t t′ : Tables) (y : ℕ) where
           (tested (isLive (slotOf t (y % 65536))))
 
 -- ---- one call
-
-pub performs : (t : Tables) (call : Call) (priorities : List ℕ) → Agrees t → step t call priorities ≡ perform t call priorities
-unfolding step
-performs t call priorities a = if-yes _ _ (agrees-true t a)
 
 module _ (t : Tables) (a : Agrees t) (call : Call) (priorities : List ℕ) (started : 1 ≤ length (t .tasks)) where
   abbrev left : Tables

@@ -1,25 +1,25 @@
 -- What is promised, in the order of the three demands: what a reviewer reads after the definitions. Each statement is proved elsewhere, by the
 -- theorem that stands behind its `=`. `Bytes bs` says that every number of the lent memory is a byte; `callFits` and `callsFit` that the numbers
 -- of calls are those of 32 bits; `replyTo` is what an entry point answers and leaves on any bytes, and what each C
--- function of the eight calls promises.
+-- function of the eight calls promises. Beside this file: StateFile.antt, Search.antt, Itron.antt and Accounts.antt.
 use mathlib.Core.Path.{_≡_}
 use mathlib.Core.Bool.{true, false}
 use mathlib.Core.List.{List, [], _∷_, _++_, map}
 use mathlib.Core.Logic.{_↔_, _⊎_, _≢_}
-use Prim.Native.Nat.{ℕ, suc, _+_, _*_, _%_, _/_, _≤_, _<_}
+use Prim.Native.Nat.{ℕ, suc, _%_, _/_, _≤_, _<_}
 use lib.Dec.{eqb}
-use lib.ListN.{length, take, replicate}
-use Rattle.laws.specs.Choose.{choose, _and_}
-use Rattle.laws.specs.Rows.{tabulate}
+use lib.ListN.{length, getD, take, replicate}
+use Rattle.laws.specs.Choose.{choose}
 use Rattle.words.proofs.WordsInBytes.{Bytes, Words}
 use Rattle.rules.specs.declared.Call.{Call}
-use Rattle.rules.specs.declared.Call.the-variants.{Create, Ident, Delete, Obtain, Release, Tick}
+use Rattle.rules.specs.declared.Call.the-variants.{Create, Delete, Obtain, Release, Tick}
+use Rattle.rules.specs.declared.Wait.{Wait}
 use Rattle.rules.specs.declared.Wait.the-variants.{Poll, Forever, Ticks}
-use Rattle.rules.specs.Numbers.{maxGeneration, isBinary}
-use Rattle.rules.specs.Machine.{Tables, unstarted, withTasks, withReady, taskOf, slotOf, isLive, idOf, names, next}
+use Rattle.rules.specs.Numbers.{maxGeneration, byPriority, isBinary}
+use Rattle.rules.specs.Machine.{Tables, unstarted, withTasks, withReady, taskOf, slotOf, names, next}
 use Rattle.rules.specs.Agreement.{Agrees}
 use Rattle.rules.specs.Semaphore.{waitOf}
-use Rattle.rules.specs.Calls.{anyCaller, searchedSlots, step}
+use Rattle.rules.specs.Calls.{anyCaller, step}
 use Rattle.rules.specs.Runs.{Request, after, answers}
 use Rattle.rules.specs.Promises.{Refusal, IsRefusal, listed, isIn, SomeGives, NextIs, sequenceAfter, ticksAmong, waitsThrough, NeverAgain}
 use Rattle.rules.specs.Fits.{callFits, callsFit}
@@ -33,19 +33,22 @@ use Rattle.rules.proofs.History.Identifiers.{created-once}
 use Rattle.rules.proofs.History.Maximum as maxima
 use Rattle.rules.proofs.Asking.{ask, says, requests, expected, answersOf, tablesOf, lastOf}
 use Rattle.rules.proofs.Vectors as vectors
-use Rattle.tables.specs.Layout.{tablesLength, slotPlace, laid, modelOf}
+use Rattle.tables.specs.Layout.{tablesLength, laid, modelOf}
 use Rattle.tables.specs.Sizes.{Holds}
 use Rattle.tables.proofs.LayoutRead as layouts
 use Rattle.tables.proofs.LayoutStore.{laid-unstarted}
 use Rattle.records.proofs.Core.{as-the-core}
-use Rattle.lookup.specs.Search.{lastLook, searchLength, Reaches}
-use Rattle.lookup.proofs.LastLook as looking
 use Rattle.agreement.specs.Bytes.{agreesBytes}
 use Rattle.calls.specs.Agreeing.{Agreeing}
-use Rattle.manager.specs.Entry.{reply, noNext, replyTo, lookedIn}
+use Rattle.manager.specs.Entry.{reply, noNext, replyTo}
 use Rattle.manager.specs.Runs.{replies}
 use Rattle.manager.proofs.Runs as entries
-use Rattle.manager.proofs.Looking as searches
+use Rattle.accounts.specs.History.{historyOf}
+use Rattle.accounts.specs.Accounts.{waitersFound, noneFound, releasesIn, Balances}
+use Rattle.accounts.specs.Turns.{goesOn, ServedInTurn}
+use Rattle.accounts.proofs.Accounting as accounts
+use Rattle.accounts.proofs.InTurn as turns
+use Rattle.accounts.proofs.Worked as cases
 use Rattle.state.specs.Reading.{tablesIn}
 use Rattle.state.specs.Reply.{loadReply}
 use Rattle.state.proofs.Loading as writes
@@ -230,6 +233,45 @@ pub standard-limit-case : (map (λ v. v .ticks) (tablesOf waits.waiters .tasks) 
     × (waits.answersAlong (tablesOf waits.waiters) (replicate 600 (ask Tick)) ≡ replicate 500 (100 ∷ 100 ∷ []) ++ replicate 101 (6 ∷ 100 ∷ []))
 standard-limit-case = (waits.waiters-kept, waits.standard-limit)
 
+-- request 7: a run's history is a list of events, each with its call, its answer and the waits that it ended (Accounts.antt says what is in it, and has the
+-- same over the bytes of the entry points and from a load on). The count accounts for every grant: of a live counting or simple binary semaphore, from its
+-- create on and as long as it lives, the count plus the grants (obtains on it that answered 0, waits on it that ended with 0) are the initial count plus the
+-- successful releases. An identifier never comes back, so who is named after the run has lived through it
+pub count-since-create : (t : Tables) (caller name count attributes maximum : ℕ) (priorities : List ℕ)
+    → callFits (Create caller name count attributes maximum) ≡ true → isBinary attributes ≡ false
+    → let o = step t (Create caller name count attributes maximum) priorities in o .answer .status ≡ 0 → (requests : List Request) → callsFit requests ≡ true
+    → let u = after (o .tables) requests in names u (o .answer .value) ≡ true
+    → Balances (o .answer .value) count noneFound (historyOf (o .tables) requests) u
+count-since-create t caller name count attributes maximum priorities fits notBinary done =
+    accounts.since-create t caller name count attributes maximum priorities done fits notBinary
+
+-- from any agreeing tables the history begins with the count and the waiters found
+pub count-as-found : (t : Tables) → Agrees t → (id : ℕ) → let s = slotOf t (id % 65536) in names t id ≡ true → isBinary (s .attributes) ≡ false
+    → (requests : List Request) → callsFit requests ≡ true
+    → let u = after t requests in names u id ≡ true → Balances id (s .count) (waitersFound t) (historyOf t requests) u
+count-as-found t a id = accounts.accounting id t a
+
+-- served in turn: in a FIFO queue of such a semaphore a waiter with k tasks ahead is granted at the latest by the (k + 1)th successful release, unless a tick, a
+-- flush or a delete ended its wait first. `ServedInTurn`: with k + 1 successful releases in the history the wait has ended, at an event before which fewer than
+-- k + 1 were successful: a release, with 0, or one of the others, with its answer. Whoever stands in a queue has its place there as k
+pub served-in-turn : (t : Tables) → Agrees t → (id : ℕ) → let s = slotOf t (id % 65536) in names t id ≡ true → isBinary (s .attributes) ≡ false
+    → byPriority (s .attributes) ≡ false → (k : ℕ) → k < length (s .queue) → (requests : List Request) → callsFit requests ≡ true
+    → ServedInTurn id (getD (s .queue) k 0) k (historyOf t requests)
+served-in-turn t a id named notBinary fifo = turns.served t a id (record { named = named; unowned = notBinary; fifo = fifo })
+
+-- all who waited before are ahead of a task that joins
+pub served-since-it-joined : (t : Tables) (q id : ℕ) (wait : Wait) (priorities : List ℕ) → callFits (Obtain q id wait) ≡ true
+    → let s = slotOf t (id % 65536) in let o = step t (Obtain q id wait) priorities in o .answer .status ≡ 100
+    → isBinary (s .attributes) ≡ false → byPriority (s .attributes) ≡ false → (requests : List Request) → callsFit requests ≡ true
+    → ServedInTurn id q (length (s .queue)) (historyOf (o .tables) requests)
+served-since-it-joined t q id wait priorities fits began notBinary fifo = turns.joined t q id wait priorities notBinary fifo fits began
+
+-- computed: tasks 3, 2 and 1 wait. Task 1 has k = 2 ahead: after k releases its wait goes on, and the third grants it
+pub k-releases-are-not-enough : (slotOf (tablesOf (cases.made ++ cases.waiters)) 1 .queue ≡ 3 ∷ 2 ∷ 1 ∷ [])
+    × (releasesIn 65537 (cases.since (replicate 2 cases.gives)) ≡ 2) × (goesOn 1 (cases.since (replicate 2 cases.gives)) ≡ true)
+    × (cases.endingsAlong (cases.since (replicate 3 cases.gives)) ≡ (cases.ended 3 0 ∷ []) ∷ (cases.ended 2 0 ∷ []) ∷ (cases.ended 1 0 ∷ []) ∷ [])
+k-releases-are-not-enough = cases.two-not-enough
+
 -- agreement is kept by every call and tick, and by every run of entry points over the bytes
 pub agreement-kept : (t : Tables) (call : Call) (priorities : List ℕ) → callFits call ≡ true → Agrees t → Agrees (step t call priorities .tables)
 agreement-kept = kept
@@ -263,39 +305,6 @@ created-once-only = created-once
 pub session-as-fed : {k : Kept} {text written : List ℕ} → Feeds k text written
     → (r : ℕ) (bs before out : List ℕ) → Writes (atEnd k) 0 r bs before out → written ++ take r out ≡ session text
 session-as-fed = code-session
-
--- ---- ident's search, of request 3: `lookedIn` is the number that `mast_ident_looked` hands back beside the answer of `mast_ident`
-
-pub nothing-searched : (bs : List ℕ) (name : ℕ) → agreesBytes bs ≡ false → lookedIn bs name ≡ 0
-nothing-searched = searches.unsearched
-
-pub no-name-searched : (bs : List ℕ) → lookedIn bs 0 ≡ 0
-no-name-searched = searches.unsearched-nameless
-
-pub unstarted-searched : (name : ℕ) → lookedIn (laid unstarted) name ≡ 0
-unstarted-searched = searches.unsearched-unstarted
-
--- slot k is looked at exactly for k from 1 up to the number, in turn and once (of the definition; the code counts its own looks, and docs/DECISIONS.md says
--- how one sees that it reads no slot besides)
-pub searched-in-turn : (bs : List ℕ) (name : ℕ) → agreesBytes bs ≡ true → name ≢ 0
-    → searchedSlots name (modelOf bs .slots) 1 ≡ tabulate (lookedIn bs name) suc
-searched-in-turn = searches.searched-in-turn
-
--- the last is the match, whose identifier is the value; if none matches, all S were looked at
-pub searched-to-the-match : (bs : List ℕ) (name : ℕ) (priorities : List ℕ) → agreesBytes bs ≡ true
-    → let a = replyTo bs (Ident name) priorities .answer in let s = slotOf (modelOf bs) (lookedIn bs name) in
-    a .status ≡ 0 → ((isLive s and eqb (s .name) name) ≡ true) × (a .value ≡ idOf (lookedIn bs name) s)
-searched-to-the-match = searches.searched-to-the-match
-
-pub searched-all : (bs : List ℕ) (name : ℕ) (priorities : List ℕ) → agreesBytes bs ≡ true → name ≢ 0
-    → replyTo bs (Ident name) priorities .answer .status ≡ 3 → lookedIn bs name ≡ length (modelOf bs .slots)
-searched-all = searches.searched-all
-
--- the search asks for bytes that `Reaches`, and these may end with the slot looked at last: it gives the same there, so it reads nothing behind
-pub search-needs-no-more : (bs : List ℕ) (slots name : ℕ) → Reaches bs slots name
-    → let cut = take (4 * slotPlace (searchLength (modelOf bs) name)) bs in
-    Reaches cut slots name × (lastLook cut (searchLength (modelOf cut) name) ≡ lastLook bs (searchLength (modelOf bs) name))
-search-needs-no-more bs slots name r = (looking.cut-reaches bs slots name r, looking.cut-last bs slots name r)
 
 -- ---- demand 3: guarded sections
 

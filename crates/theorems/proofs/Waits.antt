@@ -12,7 +12,7 @@ use lib.ListN.{length, getD, replicate}
 use lib.Seq.{getD-set-same}
 use borrow.Author.Tests.{eqb-true, eqb-false, eq-eqb, leb-true, leb-false}
 use Rattle.laws.specs.Choose.{choose, bit, _and_, _or_}
-use Rattle.laws.proofs.Choose.{tested, never, if-yes, if-no, and-both, both-and, same-test, choose-cases}
+use Rattle.laws.proofs.Choose.{tested, never, if-yes, if-no, and-both, same-test, choose-cases}
 use Rattle.laws.proofs.Fit.{set-cases}
 use Rattle.rules.specs.declared.Task.{Task}
 use Rattle.rules.specs.declared.Wait.{Wait}
@@ -21,7 +21,7 @@ use Rattle.rules.specs.declared.Call.the-variants.{Start, Create, Ident, Delete
 use Rattle.rules.specs.Machine.{Slot, Tables, noTask, taskOf, slotOf, putSlot, waits, urgency, slotNamed}
 use Rattle.rules.specs.Agreement.{Agrees, agrees}
 use Rattle.rules.specs.Semaphore.{polls, ticksOf, placeOf, Taken, takeStep, Given, giveStep}
-use Rattle.rules.specs.Calls.{Outcome, refused, unless, readied, wake, wakeAll, startRefusal, start, createRefusal, create, firstNamed, ident}
+use Rattle.rules.specs.Calls.{Outcome, refused, unless, startRefusal, start, createRefusal, create, firstNamed, ident}
 use Rattle.rules.specs.Calls.{deleteRefusal, delete, beginWait, blocked, obtainRefusal, obtain, releaseRefusal, release, flushRefusal, flush}
 use Rattle.rules.specs.Calls.{expires, ticked, tickedTables, tick, perform, step}
 use Rattle.rules.specs.Runs.{Request, stepOf, after}
@@ -30,24 +30,12 @@ use Rattle.rules.specs.Fits.{callsFit}
 use Rattle.rules.proofs.Asking.{ask, startWith, obtains, answersOf, tablesOf}
 use Rattle.rules.proofs.Invariants.Lists.{getD-map}
 use Rattle.rules.proofs.Invariants.Facts.{waits-within}
-use Rattle.rules.proofs.Invariants.Refusals.{mustnt, Caller, task-only}
-use Rattle.rules.proofs.Invariants.Kept.{kept, run-kept}
-use Rattle.rules.proofs.Invariants.Tick.{ticked-none, ticked-woken}
-use Rattle.sections.proofs.Standing.{performs}
+use Rattle.rules.proofs.Invariants.Refusals.{mustnt, Caller, task-only, obtain-refused}
+use Rattle.rules.proofs.Invariants.Kept.{performs, kept, run-kept}
+use Rattle.rules.proofs.Invariants.Tick.{ticked-none, ticked-woken, ticked-answer}
+use Rattle.rules.proofs.Invariants.Waking.{wake-keeps, wakeAll-keeps}
 
 -- ---- a wait begins
-
--- no refusal of an obtain is 100
-never-waiting : (t : Tables) (caller id : ℕ) (wait : Wait) → obtainRefusal t caller id wait ≡ 100 → ⊥
-unfolding obtainRefusal
-never-waiting t caller id wait =
-    choose-cases P _ _ _ (λ e z. omega arith)
-    (λ e. choose-cases P _ _ _
-    (λ e. choose-cases P _ _ _ (λ e. choose-cases P _ _ _ (λ e z. omega arith) (λ e z. omega arith)) (λ e z. omega arith))
-    (λ e. choose-cases P _ _ _ (λ e z. omega arith) (λ e. choose-cases P _ _ _ (λ e z. omega arith) (λ e z. omega arith))))
-  where
-    P : ℕ → Type 0
-    P n = n ≡ 100 → ⊥
 
 -- who does not wait at all is never told to
 take-waits : (s : Slot) (caller place : ℕ) (wait : Wait) → eqb (takeStep s caller place wait .status) 100 ≡ true → polls wait ≡ false
@@ -87,7 +75,7 @@ module _ (t : Tables) (caller id : ℕ) (wait : Wait) where
   obtain-begins =
       choose-cases P _ _ _
       (λ e. choose-cases P _ _ _ (λ w z. begun-there (task-only t caller _ (eqb-true _ 0 e) .0) w) (λ w z. absurd (omega arith)))
-      (λ e z. absurd (never-waiting t caller id wait z))
+      (λ e z. absurd (obtain-refused t caller id wait z))
     where
       P : Outcome → Type 0
       P o = o .answer .status ≡ 100 → Begun caller wait (o .tables)
@@ -106,21 +94,7 @@ pub record Left (n k m : ℕ) : Type 0 where
   pub fewer : 1 ≤ n → m + k ≡ n
   pub some : 1 ≤ n → 1 ≤ m
 
--- a tick ends the wait that had a single tick left, with 6
-ticked-answer : (v : Task) → waits v ≡ true → ticked v .answer ≡ choose (eqb (v .ticks) 1) 6 100
-unfolding ticked
-ticked-answer v w = ⊎-elim ended goes-on (tested (eqb (v .ticks) 1))
-  where
-    ended : eqb (v .ticks) 1 ≡ true → ticked v .answer ≡ choose (eqb (v .ticks) 1) 6 100
-    ended e = ap (λ (z : Task). z .answer) (if-yes _ _ (both-and w e)) ∙ sym (if-yes _ _ e)
-
-    goes-on : eqb (v .ticks) 1 ≡ false → ticked v .answer ≡ choose (eqb (v .ticks) 1) 6 100
-    goes-on e =
-        ap (λ (z : Task). z .answer) (if-no _ _ (if-yes _ _ w ∙ e))
-        ∙ choose-cases (λ (z : Task). z .answer ≡ 100) _ _ _ (λ y. eqb-true _ 100 w) (λ y. eqb-true _ 100 w)
-        ∙ sym (if-no _ _ e)
-
--- and takes one of any other
+-- a tick takes one of any wait that it does not end
 ticked-left : (v : Task) → waits v ≡ true → waits (ticked v) ≡ true → Left (v .ticks) 1 (ticked v .ticks)
 unfolding ticked
 ticked-left v w still =
@@ -137,14 +111,6 @@ ticked-left v w still =
 -- a task that waits is as v
 abbrev As : Task → Task → Type 0
 As v w = waits w ≡ true → w ≡ v
-
-wake-as : (v : Task) (q : ℕ) (t : Tables) (x a : ℕ) → eqb a 100 ≡ false → As v (taskOf t q) → As v (taskOf (wake t x a) q)
-wake-as v q t x a ends s = set-cases (As v) (t .tasks) (pred x) (pred q) (readied (taskOf t x) a) noTask (λ e w. never w ends) s
-
-wakeAll-as : (v : Task) (q : ℕ) (xs : List ℕ) (t : Tables) (a : ℕ) → eqb a 100 ≡ false → As v (taskOf t q) → As v (taskOf (wakeAll t xs a) q)
-unfolding wakeAll
-wakeAll-as v q [] t a ends s = s
-wakeAll-as v q (x ∷ xs) t a ends s = wakeAll-as v q xs (wake t x a) a ends (wake-as v q t x a ends s)
 
 module _ (t : Tables) (q : ℕ) (waiting : waits (taskOf t q) ≡ true) where
   -- if task q still waits, its record is as it was
@@ -172,18 +138,18 @@ module _ (t : Tables) (q : ℕ) (waiting : waits (taskOf t q) ≡ true) where
 
   delete-same : (caller id : ℕ) → Same (delete t caller id)
   unfolding delete
-  delete-same caller id = unless-same (deleteRefusal t caller id) _ (λ e. wakeAll-as (taskOf t q) q _ _ 7 refl (λ w. refl))
+  delete-same caller id = unless-same (deleteRefusal t caller id) _ (λ e. wakeAll-keeps (As (taskOf t q)) (pred q) _ _ 7 (λ v w. never w refl) (λ w. refl))
 
   flush-same : (caller id : ℕ) → Same (flush t caller id)
   unfolding flush
-  flush-same caller id = unless-same (flushRefusal t caller id) _ (λ e. wakeAll-as (taskOf t q) q _ _ 13 refl (λ w. refl))
+  flush-same caller id = unless-same (flushRefusal t caller id) _ (λ e. wakeAll-keeps (As (taskOf t q)) (pred q) _ _ 13 (λ v w. never w refl) (λ w. refl))
 
   release-same : (caller id : ℕ) → Same (release t caller id)
   unfolding release
   release-same caller id =
       unless-same (releaseRefusal t caller id) _
       (λ e. choose-cases (λ (u : Tables). As (taskOf t q) (taskOf u q)) (eqb (given .woken) 0) _ _ (λ none w. refl)
-      (λ some. wake-as (taskOf t q) q (putSlot t (slotNamed t id) (given .slot)) (given .woken) 0 refl (λ w. refl)))
+      (λ some. wake-keeps (As (taskOf t q)) (pred q) (putSlot t (slotNamed t id) (given .slot)) (given .woken) 0 (λ w. never w refl) (λ w. refl)))
     where
       given : Given
       given = giveStep (slotOf t (slotNamed t id)) caller

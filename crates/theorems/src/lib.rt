@@ -1,1 +1,1 @@
-// The theorems that matter, restated in one place: proofs/Theorems.antt, and proofs/StateFile.antt for the state file. There is no code here.
+// The theorems that matter, restated in one place: proofs/Theorems.antt, with StateFile.antt, Search.antt, Itron.antt and Accounts.antt beside it. There is no code here.

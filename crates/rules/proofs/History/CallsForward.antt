@@ -40,10 +40,10 @@ agreeing-started t a s =
 same-taken : (s : Slot) (caller place : ℕ) (wait : Wait) → Onward s (takeStep s caller place wait .slot)
 unfolding takeStep
 same-taken s caller place wait =
-    choose-cases P _ _ _ (λ e. onward-same s _ refl refl refl)
+    choose-cases P _ _ _ (λ e. onward-same s _ refl refl refl refl)
     (λ e. choose-cases P _ _ _
-    (λ e. choose-cases P _ _ _ (λ e. onward-same s _ refl refl refl) (λ e. onward-same s _ refl refl refl))
-    (λ e. choose-cases P _ _ _ (λ e. onward-same s _ refl refl refl) (λ e. onward-same s _ refl refl refl)))
+    (λ e. choose-cases P _ _ _ (λ e. onward-same s _ refl refl refl refl) (λ e. onward-same s _ refl refl refl refl))
+    (λ e. choose-cases P _ _ _ (λ e. onward-same s _ refl refl refl refl) (λ e. onward-same s _ refl refl refl refl)))
   where
     P : Taken → Type 0
     P x = Onward s (x .slot)
@@ -51,10 +51,10 @@ same-taken s caller place wait =
 same-given : (s : Slot) (caller : ℕ) → Onward s (giveStep s caller .slot)
 unfolding giveStep passStep
 same-given s caller =
-    choose-cases P _ _ _ (λ e. onward-same s _ refl refl refl)
-    (λ e. choose-cases P _ _ _ (λ e. onward-same s _ refl refl refl)
-    (λ e. choose-cases P _ _ _ (λ e. onward-same s _ refl refl refl)
-    (λ e. choose-cases P _ _ _ (λ e. onward-same s _ refl refl refl) (λ e. onward-same s _ refl refl refl))))
+    choose-cases P _ _ _ (λ e. onward-same s _ refl refl refl refl)
+    (λ e. choose-cases P _ _ _ (λ e. onward-same s _ refl refl refl refl)
+    (λ e. choose-cases P _ _ _ (λ e. onward-same s _ refl refl refl refl)
+    (λ e. choose-cases P _ _ _ (λ e. onward-same s _ refl refl refl refl) (λ e. onward-same s _ refl refl refl refl))))
   where
     P : Given → Type 0
     P x = Onward s (x .slot)
@@ -128,14 +128,14 @@ module _ (t : Tables) where
   unfolding flush flushStep
   flush-went caller id =
       unless-went (flushRefusal t caller id) _
-      (λ e. record { forward = woken-forward (slotNamed t id) _ _ _ (onward-same (slotOf t (slotNamed t id)) _ refl refl refl) })
+      (λ e. record { forward = woken-forward (slotNamed t id) _ _ _ (onward-same (slotOf t (slotNamed t id)) _ refl refl refl refl) })
 
   tick-went : Went t (tick t)
   unfolding tick tickedSlot
   tick-went = record {
     forward = record {
       sameSize = length-map (t .slots) (tickedSlot t);
-      onward = λ n. rw (ticked-slot t n) (onward-same (slotOf t n) _ refl refl refl);
+      onward = λ n. rw (ticked-slot t n) (onward-same (slotOf t n) _ refl refl refl refl);
     };
   }
 

@@ -1,5 +1,5 @@
 -- What a call does to a slot: its generation never falls, it comes to life only with a new generation, and there is none after the last; a semaphore keeps
--- its maximum.
+-- its maximum and its attributes.
 use mathlib.Core.Path.{_≡_, refl, sym, subst, _∙_}
 use mathlib.Core.Bool.{true, false≢true}
 use mathlib.Core.List.{List, [], _∷_, map}
@@ -16,6 +16,7 @@ pub record Onward (s s′ : Slot) : Type 0 where
   pub lives : s .generation ≡ s′ .generation → isLive s′ ≡ true → isLive s ≡ true
   pub last : maxGeneration ≤ s .generation → s′ .generation ≡ s .generation
   pub keeps : s .generation ≡ s′ .generation → isLive s′ ≡ true → s′ .maximum ≡ s .maximum
+  pub attributed : s .generation ≡ s′ .generation → isLive s′ ≡ true → s′ .attributes ≡ s .attributes
 
 -- every slot goes onward, and there are as many
 pub record Forward (t t′ : Tables) : Type 0 where
@@ -23,18 +24,24 @@ pub record Forward (t t′ : Tables) : Type 0 where
   pub onward : (n : ℕ) → Onward (slotOf t n) (slotOf t′ n)
 
 pub onward-refl : (s : Slot) → Onward s s
-onward-refl s = record { rises = omega arith; lives = λ e l. l; last = λ h. refl; keeps = λ e l. refl }
+onward-refl s = record { rises = omega arith; lives = λ e l. l; last = λ h. refl; keeps = λ e l. refl; attributed = λ e l. refl }
 
--- the same generation and maximum, and live as before
-pub onward-same : (s s′ : Slot) → s′ .generation ≡ s .generation → s′ .live ≡ s .live → s′ .maximum ≡ s .maximum → Onward s s′
-onward-same s s′ g l m =
-    record { rises = omega arith; lives = λ e k. subst (λ (x : ℕ). lib.Dec.eqb x 1 ≡ true) l k; last = λ h. g; keeps = λ e k. m }
+-- the same generation, maximum and attributes, and live as before
+pub onward-same : (s s′ : Slot) → s′ .generation ≡ s .generation → s′ .live ≡ s .live → s′ .maximum ≡ s .maximum → s′ .attributes ≡ s .attributes → Onward s s′
+onward-same s s′ g l m a =
+    record {
+      rises = omega arith;
+      lives = λ e k. subst (λ (x : ℕ). lib.Dec.eqb x 1 ≡ true) l k;
+      last = λ h. g;
+      keeps = λ e k. m;
+      attributed = λ e k. a;
+    }
 
 pub onward-new : (s s′ : Slot) → s .generation < s′ .generation → s .generation < maxGeneration → Onward s s′
-onward-new s s′ h l = record { rises = omega arith; lives = λ e m. absurd (omega arith); last = λ m. absurd (omega arith); keeps = λ e m. absurd (omega arith) }
+onward-new s s′ h l = record { rises = omega arith; lives = λ e m. absurd (omega arith); last = λ m. absurd (omega arith); keeps = λ e m. absurd (omega arith); attributed = λ e m. absurd (omega arith) }
 
 pub onward-freed : (s : Slot) → Onward s (freeSlot (s .generation))
-onward-freed s = record { rises = omega arith; lives = λ e m. absurd (false≢true m); last = λ h. refl; keeps = λ e m. absurd (false≢true m) }
+onward-freed s = record { rises = omega arith; lives = λ e m. absurd (false≢true m); last = λ h. refl; keeps = λ e m. absurd (false≢true m); attributed = λ e m. absurd (false≢true m) }
 
 pub onward-trans : {s s′ s″ : Slot} → Onward s s′ → Onward s′ s″ → Onward s s″
 onward-trans {s} {s′} {s″} a b = record {
@@ -48,6 +55,10 @@ onward-trans {s} {s′} {s″} a b = record {
       let f : s .generation ≡ s′ .generation = omega arith in
       let g : s′ .generation ≡ s″ .generation = omega arith in
       b .keeps g m ∙ a .keeps f (b .lives g m);
+  attributed = λ e m.
+      let f : s .generation ≡ s′ .generation = omega arith in
+      let g : s′ .generation ≡ s″ .generation = omega arith in
+      b .attributed g m ∙ a .attributed f (b .lives g m);
 }
 
 pub forward-refl : (t : Tables) → Forward t t

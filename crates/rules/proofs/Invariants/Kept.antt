@@ -6,7 +6,7 @@ use Prim.Native.Nat.{ℕ}
 use lib.Dec.{eqb}
 use borrow.Author.Tests.{leb-true}
 use Rattle.laws.specs.Choose.{choose, _or_}
-use Rattle.laws.proofs.Choose.{and-both, choose-cases}
+use Rattle.laws.proofs.Choose.{if-yes, and-both, choose-cases}
 use Rattle.rules.specs.declared.Call.{Call}
 use Rattle.rules.specs.declared.Call.the-variants.{Start, Create, Ident, Delete, Obtain, Release, Flush, Tick}
 use Rattle.rules.specs.Numbers.{successful, invalidName}
@@ -15,6 +15,7 @@ use Rattle.rules.specs.Agreement.{Agrees, agrees}
 use Rattle.rules.specs.Calls.{Outcome, answered, firstNamed, ident, perform, step}
 use Rattle.rules.specs.Runs.{Request, stepOf, after}
 use Rattle.rules.specs.Fits.{callFits, callsFit}
+use Rattle.rules.proofs.Invariants.Agreeing.{agrees-true}
 use Rattle.rules.proofs.Invariants.Facts.{Facts}
 use Rattle.rules.proofs.Invariants.FromTests.{agrees-facts}
 use Rattle.rules.proofs.Invariants.ToTests.{facts-agrees}
@@ -44,6 +45,11 @@ perform-kept t (Obtain caller id wait) priorities e f =
 perform-kept t (Release caller id) priorities e f = release-kept t caller id f
 perform-kept t (Flush caller id) priorities e f = flush-kept t caller id f
 perform-kept t Tick priorities e f = tick-kept t f
+
+-- on tables that agree a step is the call performed
+pub performs : (t : Tables) (call : Call) (priorities : List ℕ) → Agrees t → step t call priorities ≡ perform t call priorities
+unfolding step
+performs t call priorities a = if-yes _ _ (agrees-true t a)
 
 pub kept : (t : Tables) (call : Call) (priorities : List ℕ) → callFits call ≡ true → Agrees t → Agrees (step t call priorities .tables)
 unfolding step

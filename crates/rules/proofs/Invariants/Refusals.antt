@@ -11,7 +11,8 @@ use Rattle.laws.specs.Choose.{choose, _and_, isnt}
 use Rattle.laws.proofs.Choose.{tested, if-yes, if-no, and-both, isnt-false, choose-cases}
 use Rattle.rules.specs.Machine.{Tables, taskOf, waits, isLive, idOf, names, slotNamed}
 use Rattle.rules.specs.Agreement.{sizesFit}
-use Rattle.rules.specs.Calls.{Outcome, refused, unless, callerRefusal, taskOnly, anyCaller}
+use Rattle.rules.specs.declared.Wait.{Wait}
+use Rattle.rules.specs.Calls.{Outcome, refused, unless, callerRefusal, taskOnly, anyCaller, obtainRefusal}
 use Rattle.rules.proofs.Invariants.Facts.{nthSlot, Facts}
 use Rattle.rules.proofs.Invariants.FromTests.{named-of}
 use Rattle.rules.proofs.Invariants.ToTests.{names-of}
@@ -71,3 +72,15 @@ pub found : (t : Tables) → sizesFit t ≡ true → (id : ℕ) → names t id �
 found t sizes id e =
     let n = named-of t id e in
     record { place = n .place; number = if-yes _ _ e ∙ names-of t sizes id n .1; live = n .live; is = n .is }
+
+-- no refusal of an obtain is 100
+pub obtain-refused : (t : Tables) (caller id : ℕ) (wait : Wait) → obtainRefusal t caller id wait ≡ 100 → ⊥
+unfolding obtainRefusal
+obtain-refused t caller id wait =
+    choose-cases P _ _ _ (λ e z. omega arith)
+    (λ e. choose-cases P _ _ _
+    (λ e. choose-cases P _ _ _ (λ e. choose-cases P _ _ _ (λ e z. omega arith) (λ e z. omega arith)) (λ e z. omega arith))
+    (λ e. choose-cases P _ _ _ (λ e z. omega arith) (λ e. choose-cases P _ _ _ (λ e z. omega arith) (λ e z. omega arith))))
+  where
+    P : ℕ → Type 0
+    P n = n ≡ 100 → ⊥

@@ -7,9 +7,9 @@ use Prim.Native.Nat.{ℕ, zero, suc, _+_, _≤_}
 use native.Mathlib.Omega.{arith}
 use lib.Dec.{leb, eqb}
 use lib.ListN.{length, getD, length-map}
-use borrow.Author.Tests.{ne-eqb}
+use borrow.Author.Tests.{eqb-true, ne-eqb}
 use Rattle.laws.specs.Choose.{choose, bit, _and_}
-use Rattle.laws.proofs.Choose.{tested, never, if-yes, if-no, and-both, choose-cases}
+use Rattle.laws.proofs.Choose.{tested, never, if-yes, if-no, and-both, both-and, choose-cases}
 use Rattle.rules.specs.declared.Task.{Task}
 use Rattle.rules.specs.Machine.{Slot, Tables, noTask, freeSlot, taskOf, waits, isLive, urgency}
 use Rattle.rules.specs.Agreement.{isReadyTask, occurs}
@@ -41,6 +41,20 @@ ticked-priority v =
 pub ticked-woken : (v : Task) → expires v ≡ true → waits (ticked v) ≡ false
 unfolding ticked
 ticked-woken v e = ap (λ (z : Task). waits z) (if-yes _ _ e)
+
+-- a tick ends the wait that had a single tick left, with 6
+pub ticked-answer : (v : Task) → waits v ≡ true → ticked v .answer ≡ choose (eqb (v .ticks) 1) 6 100
+unfolding ticked
+ticked-answer v w = ⊎-elim ended goes-on (tested (eqb (v .ticks) 1))
+  where
+    ended : eqb (v .ticks) 1 ≡ true → ticked v .answer ≡ choose (eqb (v .ticks) 1) 6 100
+    ended e = ap (λ (z : Task). z .answer) (if-yes _ _ (both-and w e)) ∙ sym (if-yes _ _ e)
+
+    goes-on : eqb (v .ticks) 1 ≡ false → ticked v .answer ≡ choose (eqb (v .ticks) 1) 6 100
+    goes-on e =
+        ap (λ (z : Task). z .answer) (if-no _ _ (if-yes _ _ w ∙ e))
+        ∙ choose-cases (λ (z : Task). z .answer ≡ 100) _ _ _ (λ y. eqb-true _ 100 w) (λ y. eqb-true _ 100 w)
+        ∙ sym (if-no _ _ e)
 
 pub ticked-same : (v : Task) → expires v ≡ false → SameWait v (ticked v)
 unfolding ticked

@@ -11,6 +11,7 @@ use lib.Seq.{getD-set-same, getD-set-other}
 use borrow.Author.Tests.{eqb-true, eqb-false, ne-eqb}
 use Rattle.laws.specs.Choose.{choose}
 use Rattle.laws.proofs.Choose.{tested, if-le, if-not-le, or-either, or-second, choose-cases}
+use Rattle.laws.proofs.Fit.{set-cases}
 use Rattle.rules.specs.declared.Task.{Task}
 use Rattle.rules.specs.Machine.{Tables, noTask, taskOf}
 use Rattle.rules.specs.Agreement.{isEnding, occurs}
@@ -64,6 +65,16 @@ pub wakeAll-ready : (qs : List ℕ) (t : Tables) (a : ℕ) → wakeAll t qs a .r
 unfolding wakeAll
 wakeAll-ready [] t a = sym (append-nil (t .ready))
 wakeAll-ready (q ∷ qs) t a = wakeAll-ready qs (wake t q a) a ∙ append-assoc (t .ready) (q ∷ []) qs
+
+-- what holds of a task, and of all that are readied, holds of it afterwards
+pub wake-keeps : (P : Task → Type 0) (i : ℕ) (t : Tables) (q a : ℕ) → P (readied (taskOf t q) a) → P (nthTask t i) → P (nthTask (wake t q a) i)
+wake-keeps P i t q a new old = set-cases P (t .tasks) (pred q) i (readied (taskOf t q) a) noTask (λ e. new) old
+
+pub wakeAll-keeps : (P : Task → Type 0) (i : ℕ) (qs : List ℕ) (t : Tables) (a : ℕ) → ((v : Task) → P (readied v a)) → P (nthTask t i)
+    → P (nthTask (wakeAll t qs a) i)
+unfolding wakeAll
+wakeAll-keeps P i [] t a new old = old
+wakeAll-keeps P i (q ∷ qs) t a new old = wakeAll-keeps P i qs (wake t q a) a new (wake-keeps P i t q a (new (taskOf t q)) old)
 
 -- the tasks of the list are readied, the others stay
 abbrev pub wokenOf : List ℕ → ℕ → ℕ → Task → Task

@@ -1,0 +1,10 @@
+pub mod Endings
+pub mod Waiters
+pub mod Balance
+pub mod Granting
+pub mod Accounting
+pub mod Queues
+pub mod Serving
+pub mod InTurn
+pub mod InBytes
+pub mod Worked
