@@ -129,8 +129,10 @@ impl History {
         Ok(())
     }
 
-    /// A wait in a FIFO queue is ended by a release of its semaphore, which grants, or by a tick, a flush or a delete, each with its answer.
+    /// A wait in a FIFO queue is ended by a release of its semaphore, which grants, or by a tick, a flush or a delete, each with its
+    /// answer; a call that is refused ends none.
     fn check_endings(&self, event: &Event) -> Checked {
+        let done = event.answer.status == SUCCESSFUL;
         for &(task, answer) in &event.ended {
             let Some((id, account, _)) = self.accounts.awaited_by(task) else { continue };
             let ending = match event.call {
@@ -140,7 +142,7 @@ impl History {
                 Call::Delete { id: deleted, .. } if deleted == id => Some(OBJECT_WAS_DELETED),
                 _ => None,
             };
-            if account.order == Order::Fifo && Some(answer) != ending {
+            if account.order == Order::Fifo && Some(answer) != ending.filter(|_| done) {
                 let said = format!("the wait of task {task} ended with {answer}");
                 return broken(Fact::Turn, id, account, said);
             }
@@ -155,7 +157,7 @@ impl History {
                 let (task, ahead, since) = (waiter.task, waiter.ahead, account.releases_since(waiter));
                 if since > ahead {
                     let said =
-                        format!("task {task} joined with {ahead} ahead, still waits after {since}");
+                        format!("task {task} had {ahead} ahead, still waits after {since} releases");
                     return broken(Fact::Turn, id, account, said);
                 }
             }

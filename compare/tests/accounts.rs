@@ -2,7 +2,7 @@
 
 mod runs;
 
-use compare::call::{Answer, Call};
+use compare::call::{Answer, Call, Manager};
 use compare::fuzz::comparison::{Comparison, Place};
 use compare::history::accounts::Accounts;
 use compare::history::{Event, Fact, History};
@@ -211,8 +211,22 @@ fn a_grant_one_release_late_is_told_at_that_release() {
     let release = Call::Release { caller: 0, id: ID };
     let broken = run.call(&release).1.expect_err("two were ahead of task 3");
     assert_eq!(broken.fact, Fact::Turn);
-    let late = ": task 3 joined with 2 ahead, still waits after 3";
+    let late = ": task 3 had 2 ahead, still waits after 3 releases";
     assert!(broken.to_string().ends_with(late), "{broken}");
+}
+
+#[test]
+fn a_flush_that_is_refused_ends_no_wait() {
+    let mut run = Run::started(Tested, 3, &[[0, 0]]);
+    (1..=2).for_each(|task| run.obtain(task, ID, 100));
+    // What a flush leaves, with the answer of one by a task that waits.
+    let flush = Call::Flush { caller: 1, id: ID };
+    Tested.call(&mut run.tables, &Call::Flush { caller: 0, id: ID });
+    let refused = Answer::new(14, 0, 1);
+    let broken =
+        run.history.saw(&flush, refused, &run.tables, &mut run.seen).expect_err("it was refused");
+    assert_eq!(broken.fact, Fact::Turn);
+    assert!(broken.to_string().ends_with(": the wait of task 1 ended with 13"), "{broken}");
 }
 
 #[test]

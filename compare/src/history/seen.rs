@@ -112,8 +112,9 @@ impl Seen {
     /// Counts an event, given the accounts before it.
     pub fn saw(&mut self, accounts: &Accounts, event: &Event) {
         match (&event.call, event.answer.status) {
-            (Call::Create { .. }, SUCCESSFUL) => {
-                self.happened(OTHERS[1], accounts.had_grants_before(event.answer.value));
+            (&Call::Create { attributes, .. }, SUCCESSFUL) => {
+                let begins = attributes & BINARY == 0;
+                self.happened(OTHERS[1], begins && accounts.had_grants_before(event.answer.value));
             }
             (Call::Delete { id, .. }, SUCCESSFUL) => {
                 self.happened(OTHERS[0], accounts.of(*id).is_some_and(|account| account.grants > 0));

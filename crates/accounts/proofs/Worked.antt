@@ -50,7 +50,7 @@ pub ended-otherwise : (endingsAlong (since (ask Tick ∷ ask Tick ∷ gives ∷ 
 unfolding answersOf historyOf endingsFrom
 ended-otherwise = (refl, refl, refl)
 
--- the calls from the create on: one obtain and two waits are granted, task 2's wait is not, and the last release finds nobody
+-- the calls from the create on: one obtain and two waits are granted, task 2's wait is not, and the last two releases find nobody
 abbrev pub calls : List Request
 calls = waiters ++ ask Tick ∷ ask Tick ∷ replicate 4 gives
 
@@ -60,10 +60,10 @@ pub accounted : (slotOf (tablesOf (made ++ calls)) 1 .count ≡ 2) × (grantsIn 
 unfolding answersOf historyOf endingsFrom accounts.obtains accounts.releases begun waitsAfter granted grantsIn releasesIn
 accounted = (refl, refl, refl)
 
--- from the tables with the three waiters: the count found 0 and four releases, count 2 and two grants; without the waiters found the grants would be missed
 abbrev pub later : List Request
 later = ask Tick ∷ ask Tick ∷ replicate 4 gives
 
+-- from the tables with the three waiters: the count found 0 and four releases, count 2 and two grants; without the waiters found the grants would be missed
 pub accounted-as-found : (slotOf (tablesOf (made ++ waiters)) 1 .count ≡ 0) × (slotOf (tablesOf (made ++ waiters ++ later)) 1 .count ≡ 2)
     × (grantsIn 65537 (waitersFound (tablesOf (made ++ waiters))) (since later) ≡ 2) × (releasesIn 65537 (since later) ≡ 4)
     × (grantsIn 65537 noneFound (since later) ≡ 0)
@@ -74,8 +74,8 @@ accounted-as-found = (refl, refl, refl, refl, refl)
 abbrev pub two : List Request
 two = startWith 2 (10 ∷ 20 ∷ []) ∷ ask (Create 1 77 0 4 2) ∷ ask (Create 1 78 0 32 1) ∷ []
 
--- task 1 waits on the first and then on the second, task 2 on the second and then on the first, and each is granted both; a poll and the releases at the
--- maximum get 13 and count for nothing; caller 0 releases, and takes nothing; the first is deleted and its slot is used again, as 131073
+-- task 1 waits on the first and then on the second, task 2 on the second and then on the first, and each is granted both; a release at the
+-- maximum and a poll get 13 and count for nothing; caller 0 releases, and takes nothing; the first is deleted and its slot is used again, as 131073
 abbrev pub both : List Request
 both =
     obtains 1 65537 0 4294967295 ∷ obtains 2 65538 0 4294967295 ∷ ask (Release 0 65537) ∷ ask (Release 0 65538) ∷ obtains 1 65538 0 0 ∷ obtains 2 65537 0 0

@@ -29,7 +29,7 @@ begun : bit (eqb 100 0) ≡ 0
 begun = if-no 1 0 refl
 
 module _ (s : Slot) (unowned : isBinary (s .attributes) ≡ false) where
-  -- what is counted once by a done obtain
+  -- the count goes down by one exactly where the obtain is done
   pub take-accounts : (caller place : ℕ) (wait : Wait) → let taken = takeStep s caller place wait in
       taken .slot .count + bit (eqb (taken .status) 0) ≡ s .count
   unfolding takeStep
@@ -52,7 +52,7 @@ module _ (s : Slot) (unowned : isBinary (s .attributes) ≡ false) where
       P : Taken → Type 0
       P taken = taken .slot .queue ≡ choose (eqb (taken .status) 100) (insertAt place caller (s .queue)) (s .queue)
 
-  -- a release is one without an owner
+  -- a release goes as that of a semaphore without an owner
   gives : (caller : ℕ) → giveStep s caller ≡ passStep s
   unfolding giveStep
   gives caller = if-no _ _ (if-no _ _ unowned) ∙ if-no _ _ (if-no _ _ unowned)

@@ -236,7 +236,7 @@ standard-limit-case = (waits.waiters-kept, waits.standard-limit)
 -- request 7: a run's history is a list of events, each with its call, its answer and the waits that it ended (Accounts.antt says what is in it, and has the
 -- same over the bytes of the entry points and from a load on). The count accounts for every grant: of a live counting or simple binary semaphore, from its
 -- create on and as long as it lives, the count plus the grants (obtains on it that answered 0, waits on it that ended with 0) are the initial count plus the
--- successful releases. An identifier never comes back, so who is named after the run has lived through it
+-- successful releases. An identifier never comes back, so a semaphore that it names after the run has lived through it
 pub count-since-create : (t : Tables) (caller name count attributes maximum : ℕ) (priorities : List ℕ)
     → callFits (Create caller name count attributes maximum) ≡ true → isBinary attributes ≡ false
     → let o = step t (Create caller name count attributes maximum) priorities in o .answer .status ≡ 0 → (requests : List Request) → callsFit requests ≡ true

@@ -24,7 +24,8 @@ pub record Forward (t t′ : Tables) : Type 0 where
   pub onward : (n : ℕ) → Onward (slotOf t n) (slotOf t′ n)
 
 pub onward-refl : (s : Slot) → Onward s s
-onward-refl s = record { rises = omega arith; lives = λ e l. l; last = λ h. refl; keeps = λ e l. refl; attributed = λ e l. refl }
+onward-refl s =
+    record { rises = omega arith; lives = λ e l. l; last = λ h. refl; keeps = λ e l. refl; attributed = λ e l. refl }
 
 -- the same generation, maximum and attributes, and live as before
 pub onward-same : (s s′ : Slot) → s′ .generation ≡ s .generation → s′ .live ≡ s .live → s′ .maximum ≡ s .maximum → s′ .attributes ≡ s .attributes → Onward s s′
@@ -38,10 +39,24 @@ onward-same s s′ g l m a =
     }
 
 pub onward-new : (s s′ : Slot) → s .generation < s′ .generation → s .generation < maxGeneration → Onward s s′
-onward-new s s′ h l = record { rises = omega arith; lives = λ e m. absurd (omega arith); last = λ m. absurd (omega arith); keeps = λ e m. absurd (omega arith); attributed = λ e m. absurd (omega arith) }
+onward-new s s′ h l =
+    record {
+      rises = omega arith;
+      lives = λ e m. absurd (omega arith);
+      last = λ m. absurd (omega arith);
+      keeps = λ e m. absurd (omega arith);
+      attributed = λ e m. absurd (omega arith);
+    }
 
 pub onward-freed : (s : Slot) → Onward s (freeSlot (s .generation))
-onward-freed s = record { rises = omega arith; lives = λ e m. absurd (false≢true m); last = λ h. refl; keeps = λ e m. absurd (false≢true m); attributed = λ e m. absurd (false≢true m) }
+onward-freed s =
+    record {
+      rises = omega arith;
+      lives = λ e m. absurd (false≢true m);
+      last = λ h. refl;
+      keeps = λ e m. absurd (false≢true m);
+      attributed = λ e m. absurd (false≢true m);
+    }
 
 pub onward-trans : {s s′ s″ : Slot} → Onward s s′ → Onward s′ s″ → Onward s s″
 onward-trans {s} {s′} {s″} a b = record {
