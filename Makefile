@@ -25,7 +25,7 @@ run: build/mast-session
 ifdef SESSION
 	@python3 tools/show_session.py build/mast-session "$(SESSION)"
 else
-	@python3 tools/show_session.py build/mast-session examples/worked.session examples/day.session examples/equals.session examples/places.session
+	@python3 tools/show_session.py build/mast-session examples/worked.session examples/day.session examples/equals.session examples/places.session examples/inheritance.session
 endif
 
 # The program that runs guarded sections from a text, from the proved crate mast_sections.

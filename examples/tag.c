@@ -1,6 +1,6 @@
 /*
- * A tag with three tasks: the radio hears packets, the display shows them, the logger writes them
- * to flash. Display and flash share one bus. first.c is the program to read before this one.
+ * A tag with three tasks: the radio hears packets, the logger writes them to flash, the display shows
+ * them. All three use one bus. first.c is the program to read before this one.
  *
  * The tasks are small state machines that run to the end of a step on one stack, so that the switch
  * to a task is a call: after each step the one that the manager named last, `next`, takes its turn.
@@ -8,11 +8,16 @@
  * handlers break in anywhere, so a task masks interrupts around each call.
  *
  *     packets  counting        the radio's interrupt releases it once for each packet, of which it keeps 4
- *     entries  counting        the radio releases it once for each entry to be logged
+ *     entries  counting        released once for each entry to be logged, by the radio and the sensor
  *     redraw   simple binary   the radio asks for a redraw; asking twice is once
- *     bus      binary          owned by the task that uses the bus; the most urgent waits least
+ *     bus      binary          owned by the task that uses the bus, with priority inheritance
  *     flash    simple binary   the flash's interrupt says that a write is done
  *     halt     counting        never released; who waits on it has finished
+ *
+ * Priority inheritance: in the middle of a picture the display, the least urgent, holds the bus. An entry
+ * for the logger comes, and then a packet, for which the radio needs the bus. While the radio waits, the
+ * display goes by the radio's priority, so that the logger does not go before it. With the order
+ * MAST_PRIORITY alone the logger would go first, and the radio would wait for both.
  */
 #include <stdio.h>
 #include <stdlib.h>
@@ -28,7 +33,7 @@
 #define FLASH_TIMEOUT 3  /* ticks */
 #define PACKETS 4        /* a packet more is lost, and `packets` does not count it */
 
-enum { RADIO = 1, DISPLAY, LOGGER, TASKS = LOGGER };
+enum { RADIO = 1, LOGGER, DISPLAY, TASKS = DISPLAY };
 
 struct task {
     const char *name;
@@ -40,13 +45,13 @@ struct task {
 };
 
 static void radio_step(struct task *self);
-static void display_step(struct task *self);
 static void logger_step(struct task *self);
+static void display_step(struct task *self);
 
 static struct task tasks[TASKS] = {
     { "radio", RADIO, radio_step, 0, 0, MAST_SUCCESSFUL },
-    { "display", DISPLAY, display_step, 0, 0, MAST_SUCCESSFUL },
     { "logger", LOGGER, logger_step, 0, 0, MAST_SUCCESSFUL },
+    { "display", DISPLAY, display_step, 0, 0, MAST_SUCCESSFUL },
 };
 static const uint32_t priorities[TASKS] = { 10, 20, 30 };
 
@@ -57,6 +62,9 @@ static uint32_t next;  /* the task whose turn it is, or 0 */
 static unsigned ticks; /* since power on */
 
 static mast_id packets, entries, redraw, bus, flash, halt;
+
+enum event { CLOCK, PACKET, SENSOR, FLASH_READY, BATTERY_LOW };
+static void interrupt(enum event event);
 
 static const char *status_name(mast_status status)
 {
@@ -156,7 +164,7 @@ static void create_semaphores(const struct task *self)
 {
     const uint32_t counting = MAST_COUNTING_SEMAPHORE | MAST_FIFO;
     const uint32_t simple = MAST_SIMPLE_BINARY_SEMAPHORE | MAST_FIFO;
-    const uint32_t binary = MAST_BINARY_SEMAPHORE | MAST_PRIORITY;
+    const uint32_t binary = MAST_BINARY_SEMAPHORE | MAST_PRIORITY | MAST_INHERIT_PRIORITY;
 
     packets = create(self, mast_build_name('P', 'K', 'T', 'S'), 0, counting, PACKETS);
     entries = create(self, mast_build_name('E', 'N', 'T', 'R'), 0, counting, MAST_MAXIMUM_COUNT);
@@ -176,7 +184,7 @@ static void close_down(const struct task *self)
 
 static void radio_step(struct task *self)
 {
-    enum { BOOT, LISTEN, HEARD, DONE };
+    enum { BOOT, LISTEN, HEARD, FETCH, DONE };
 
     switch (self->state) {
     case BOOT:
@@ -191,15 +199,21 @@ static void radio_step(struct task *self)
     case HEARD:
         if (self->answer == MAST_SUCCESSFUL) {
             say(self->name, "heard a packet");
-            /* A redraw already asked for is as good, so a refusal is no error. */
-            say_status(self->name, "asks for a redraw", release(self, redraw));
-            say_status(self->name, "asks for an entry", release(self, entries));
-            self->state = LISTEN;
+            self->state = FETCH;
+            obtain(self, bus, MAST_NO_TIMEOUT);
+            say_status(self->name, "obtains the bus", self->answer);
         } else {
             say(self->name, "closes down");
             close_down(self);
             self->state = DONE;
         }
+        break;
+    case FETCH:
+        say_status(self->name, "has read the packet and releases the bus", release(self, bus));
+        /* A redraw already asked for is as good, so a refusal is no error. */
+        say_status(self->name, "asks for a redraw", release(self, redraw));
+        say_status(self->name, "asks for an entry", release(self, entries));
+        self->state = LISTEN;
         break;
     case DONE:
         obtain(self, halt, MAST_NO_TIMEOUT);
@@ -217,7 +231,8 @@ static void draw_text(struct task *self)
 
 static void display_step(struct task *self)
 {
-    enum { BOOT, IDLE, ASKED, DRAW, DONE };
+    enum { BOOT, IDLE, ASKED, DRAW, FINISH, DONE };
+    static unsigned pictures;
 
     switch (self->state) {
     case BOOT:
@@ -239,14 +254,23 @@ static void display_step(struct task *self)
         }
         break;
     case DRAW:
-        self->state = IDLE;
         /* The logger needs the bus for a few ticks: past the standard limit the picture is given up. */
-        if (self->answer == MAST_SUCCESSFUL) {
-            draw_text(self);
-            say_status(self->name, "releases the bus", release(self, bus));
-        } else {
+        if (self->answer != MAST_SUCCESSFUL) {
             say(self->name, "gives up the picture");
+            self->state = IDLE;
+            break;
         }
+        draw_text(self);
+        self->state = FINISH;
+        /* In the middle of the first picture handlers break in. This program has to call them itself. */
+        if (pictures++ == 0) {
+            interrupt(SENSOR);
+            interrupt(PACKET);
+        }
+        break;
+    case FINISH:
+        say_status(self->name, "has drawn the rest and releases the bus", release(self, bus));
+        self->state = IDLE;
         break;
     case DONE:
         obtain(self, halt, MAST_NO_TIMEOUT);
@@ -289,11 +313,10 @@ static void logger_step(struct task *self)
     }
 }
 
-enum event { CLOCK, PACKET, FLASH_READY, BATTERY_LOW };
-
+/* What comes while no task is ready. */
 static const enum event day[] = {
-    PACKET, PACKET, FLASH_READY,              /* the second redraw waits for the logger's bus */
-    CLOCK, PACKET, CLOCK, CLOCK, FLASH_READY, /* the flash is late once */
+    PACKET, FLASH_READY,              /* the picture waits for the logger's bus; in its middle come two more */
+    CLOCK, CLOCK, CLOCK, FLASH_READY, /* the flash is late once */
     BATTERY_LOW,
 };
 
@@ -312,6 +335,9 @@ static void interrupt(enum event event)
         break;
     case PACKET:
         say_status("interrupt", "a packet", release_from_interrupt(packets));
+        break;
+    case SENSOR:
+        say_status("interrupt", "the sensor has an entry", release_from_interrupt(entries));
         break;
     case FLASH_READY:
         say_status("interrupt", "the flash is ready", release_from_interrupt(flash));

@@ -20,11 +20,21 @@
  * Tasks are numbered 1 to N in the order of their priorities at start, N at most 32. Priority 1 is
  * the most urgent, 255 the least. A task is ready, or waits on one semaphore.
  *
- * Equals. Of ready tasks of one priority the one that has been ready longest goes first. The tables
- * keep the ready tasks in a sequence: 1 to N at start; a task that begins to wait leaves it, and one
- * whose wait ends joins its end. mast_delete and mast_flush wake in the order of the queue, mast_tick
- * in the order of the tasks' numbers. A call that begins or ends no wait moves nobody, so a task that
- * polls keeps its turn.
+ * Working priorities. A semaphore with MAST_INHERIT_PRIORITY lends the urgency of its waiters to its
+ * owner, so that a task of middling priority does not run while a more urgent one waits for a less
+ * urgent one. A task's working priority is the least number among its own priority and those of all
+ * tasks that wait on such semaphores it owns, and so on along a chain of owners, each link such a
+ * semaphore. A waiter on any other semaphore lends nothing. The next task, and every queue with
+ * MAST_PRIORITY, goes by working priorities at that moment. Nothing of this is stored: when a wait ends
+ * or the semaphore is released for the last time, the owner goes by what it then has, its own priority
+ * or what it inherits by another semaphore. Without such semaphores a working priority is the task's own.
+ *
+ * Equals. Of ready tasks of one working priority the one that has been ready longest goes first. The
+ * tables keep the ready tasks in a sequence: 1 to N at start; a task that begins to wait leaves it, and
+ * one whose wait ends joins its end. mast_delete and mast_flush wake in the order in which the waiters
+ * would have been served, mast_tick in the order of the tasks' numbers. A call that begins or ends no
+ * wait moves nobody, so a task that polls keeps its turn, and a task whose working priority changes
+ * keeps its place.
  *
  * Callers. `caller` is the number of the task that makes the call. An interrupt is caller 0; it may
  * call mast_release and mast_flush. mast_start, mast_ident, mast_ident_looked, mast_tick, mast_task,
@@ -46,6 +56,11 @@
  * ever is meant say MAST_NO_TIMEOUT, keep it in a uint32_t, and compare with MAST_NO_TIMEOUT, not with
  * 0. MAST_NO_WAIT and the calls of mastclover_itron.h are as they were. Tables and state files from
  * before stay valid: 0 ticks left is for ever there, as it was.
+ * Queues are stored in the order of arrival. With MAST_PRIORITY they used to be stored in the order of
+ * priorities. Tables and state files from before stay valid, and their waiters are served in the same
+ * order; but a firmware or a desk that reads a queue out of them no longer finds who is served next at
+ * its front. Files with a semaphore of MAST_INHERIT_PRIORITY are refused by a library from before.
+ * mast_next_task of mastrecords.h takes two arguments more.
  *
  * Identifiers are generation * 65536 + slot, with slots from 1. A slot's generation goes up by one
  * with each create, so the identifier of a deleted semaphore is never given again, and a slot freed
@@ -61,7 +76,7 @@
  *                         left
  *     words 130 to 2753   41 for each of 64 slots: generation, live (0 or 1), name, attributes,
  *                         count, owner, nest, maximum, queue length, and 32 of the queue (task
- *                         numbers, the first to be served first)
+ *                         numbers, in the order of arrival)
  *     word 2754           how many tasks are ready
  *     words 2755 to 2786  the sequence of the ready tasks (task numbers, the longest ready first)
  * What lies beyond N, S or the length of a queue or the sequence is 0, and so is a free slot but for
@@ -80,8 +95,8 @@
  *                         ticks left
  *     body of kind 2      eight for each of S slots: generation, live (0 or 1), name, attributes,
  *                         count, owner, nest, maximum
- *     body of kind 3      for each of S slots: queue length, then as many task numbers, the first to
- *                         be served first
+ *     body of kind 3      for each of S slots: queue length, then as many task numbers, in the order
+ *                         of arrival
  *     body of kind 4      the sequence of the ready tasks (task numbers, the longest ready first)
  * The bodies stand in this order without gaps, and nothing follows the last. The lengths of the first
  * two say N and S, that of the last how many tasks are ready; the whole is 56 + 20 * N + 36 * S bytes.
@@ -135,13 +150,17 @@ extern "C" {
 #define MAST_INTERNAL_ERROR 25        /* the tables are damaged or have the wrong length */
 #define MAST_WAITING 100              /* not of RTEMS: the caller now waits, or still does */
 
-/* Attributes of mast_create: one order and one class, added. Anything else is MAST_NOT_DEFINED. */
+/*
+ * Attributes of mast_create: one order and one class, added, and MAST_INHERIT_PRIORITY if wanted, only
+ * with MAST_BINARY_SEMAPHORE and MAST_PRIORITY. Anything else is MAST_NOT_DEFINED.
+ */
 #define MAST_DEFAULT_ATTRIBUTES 0       /* FIFO, counting */
 #define MAST_FIFO 0                     /* waiters are served by arrival */
-#define MAST_PRIORITY 4                 /* waiters are served by priority, equals by arrival */
+#define MAST_PRIORITY 4                 /* by working priority at that moment, equals by arrival */
 #define MAST_COUNTING_SEMAPHORE 0       /* a count up to its maximum, released by anyone */
 #define MAST_BINARY_SEMAPHORE 16        /* has an owner, who may nest and who alone may release */
 #define MAST_SIMPLE_BINARY_SEMAPHORE 32 /* a count of 0 or 1, no owner, released by anyone */
+#define MAST_INHERIT_PRIORITY 64        /* the owner is as urgent as its most urgent waiter, or more */
 
 /* Options of mast_obtain. Only bit 0 has an effect. */
 #define MAST_DEFAULT_OPTIONS 0
@@ -164,8 +183,8 @@ typedef uint32_t mast_name;
 
 /*
  * What every call gives back. `value` is 0 unless a call says otherwise. `next` is the task to run:
- * of the ready tasks the most urgent, among equals the one that has been ready longest, or 0 if no
- * task is ready. With MAST_INTERNAL_ERROR both are 0.
+ * of the ready tasks the most urgent by working priority, among equals the one that has been ready
+ * longest, or 0 if no task is ready. With MAST_INTERNAL_ERROR both are 0.
  */
 typedef struct {
     mast_status status;
@@ -206,7 +225,8 @@ mast_answer mast_start(uint8_t *tables, size_t length, uint32_t slots, const uin
  *   MAST_INVALID_ID        no such caller
  *   MAST_INCORRECT_STATE   the caller is waiting
  *   MAST_INVALID_NAME      name 0
- *   MAST_NOT_DEFINED       attributes other than one order and one class
+ *   MAST_NOT_DEFINED       attributes other than one order and one class, or MAST_INHERIT_PRIORITY
+ *                          without MAST_BINARY_SEMAPHORE and MAST_PRIORITY
  *   MAST_INVALID_NUMBER    a maximum that the class does not allow, or a count above the maximum
  *   MAST_TOO_MANY          no free slot with a generation below 65535
  *   MAST_SUCCESSFUL        value: the identifier
@@ -228,14 +248,15 @@ mast_answer mast_ident(const uint8_t *tables, size_t length, mast_name name);
  * As mast_ident, with the same answer, and in `*looked` how many slots the search looked at: the number
  * of the match's slot, or the number of slots if none matches; 0 with MAST_INTERNAL_ERROR, with name 0
  * and before mast_start. The search looks at slots 1, 2, 3 .. in turn, at none after its match and at
- * none twice; the test for MAST_INTERNAL_ERROR before it is not counted. `looked` is not NULL and points
- * outside of the tables; the number is always written.
+ * none twice; the test for MAST_INTERNAL_ERROR before it and the choice of `next` behind it are not
+ * counted. `looked` is not NULL and points outside of the tables; the number is always written.
  */
 mast_answer mast_ident_looked(const uint8_t *tables, size_t length, mast_name name, uint32_t *looked);
 
 /*
  * Deletes a semaphore. All its waiters become ready with answer MAST_OBJECT_WAS_DELETED, in the order
- * of the queue. Not from an interrupt. For tables with a list of mastclover_itron.h there is
+ * in which they would have been served: by arrival, with MAST_PRIORITY by the working priorities before
+ * the call. Not from an interrupt. For tables with a list of mastclover_itron.h there is
  * mast_delete_mapped.
  *
  *   MAST_INTERNAL_ERROR    the tables are damaged or have the wrong length
@@ -254,7 +275,9 @@ mast_answer mast_delete(uint8_t *tables, size_t length, uint32_t caller, mast_id
  * often. Otherwise MAST_NO_WAIT refuses and MAST_WAIT queues the caller, which then waits for
  * `timeout` ticks at the most, 500 ticks with MAST_STANDARD_TIMEOUT, or for ever with MAST_NO_TIMEOUT;
  * with MAST_NO_WAIT the timeout has no effect. A simple binary semaphore makes even the task that
- * holds it wait. Not from an interrupt.
+ * holds it wait. While the caller waits on a semaphore with MAST_INHERIT_PRIORITY, it lends its working
+ * priority to the owner. A deadlock is not noticed; only mast_tick and mast_flush end it. Not from an
+ * interrupt.
  *
  *   MAST_INTERNAL_ERROR    the tables are damaged or have the wrong length
  *   MAST_CALLED_FROM_ISR   caller 0
@@ -269,9 +292,11 @@ mast_answer mast_obtain(uint8_t *tables, size_t length, uint32_t caller, mast_id
                         uint32_t options, uint32_t timeout);
 
 /*
- * Releases a semaphore. A binary semaphore obtained more than once is released once. Otherwise the
- * first waiter gets it and becomes ready with answer MAST_SUCCESSFUL; without a waiter the count
- * goes up by one. Also from an interrupt, as caller 0, but for binary semaphores.
+ * Releases a semaphore. A binary semaphore obtained more than once is released once. Otherwise a
+ * waiter, if there is one, gets it and becomes ready with answer MAST_SUCCESSFUL: the one that arrived
+ * first, with MAST_PRIORITY of those with the least working priority at this moment. Without a waiter
+ * the count goes up by one. What the caller inherited by this semaphore it has no longer after its last
+ * release. Also from an interrupt, as caller 0, but for binary semaphores.
  *
  *   MAST_INTERNAL_ERROR    the tables are damaged or have the wrong length
  *   MAST_INVALID_ID        no such caller
@@ -284,8 +309,9 @@ mast_answer mast_obtain(uint8_t *tables, size_t length, uint32_t caller, mast_id
 mast_answer mast_release(uint8_t *tables, size_t length, uint32_t caller, mast_id id);
 
 /*
- * Wakes all waiters of a semaphore with answer MAST_UNSATISFIED, in the order of the queue. Its
- * count, owner and nest stay. Also from an interrupt, as caller 0.
+ * Wakes all waiters of a semaphore with answer MAST_UNSATISFIED, in the order in which they would have
+ * been served: by arrival, with MAST_PRIORITY by the working priorities before the call. Its count,
+ * owner and nest stay. Also from an interrupt, as caller 0.
  *
  *   MAST_INTERNAL_ERROR    the tables are damaged or have the wrong length
  *   MAST_INVALID_ID        no such caller
@@ -429,7 +455,8 @@ mast_answer mast_load(uint8_t *tables, size_t length, const uint8_t *file, size_
  *                          scripts for one task; a cell that is missing or belongs to another
  *                          identifier than its section's; what is no step or no event; a section's
  *                          identifier that is not a live semaphore with attributes
- *                          MAST_BINARY_SEMAPHORE, alone or with MAST_PRIORITY, and no owner
+ *                          MAST_BINARY_SEMAPHORE, alone, with MAST_PRIORITY, or with that and
+ *                          MAST_INHERIT_PRIORITY, and no owner
  *   MAST_INVALID_ID        a script's task that is no ready task; a turn of a task without a
  *                          script; an event whose caller is a script's task
  *   MAST_SUCCESSFUL        the events are run

@@ -105,7 +105,7 @@ extern "C" {
 
 /* sematr of mast_cre_sem. */
 #define MAST_TA_TFIFO 0 /* waiters are served by arrival */
-#define MAST_TA_TPRI 1  /* waiters are served by priority, equals by arrival */
+#define MAST_TA_TPRI 1  /* by working priority at that moment, equals by arrival */
 
 /*
  * tmout of mast_twai_sem; any number above 0 is so many ticks of mast_tick. These are not the timeouts
@@ -137,13 +137,16 @@ typedef struct {
 mast_coded mast_cre_sem(uint8_t *tables, size_t length, uint32_t *list, size_t entries, uint32_t caller,
                        uint32_t semid, uint32_t sematr, int32_t isemcnt, int32_t maxsem);
 
-/* Deletes semid's semaphore; its waiters get MAST_E_DLT. semid has none afterwards. MAST_E_NOEXS. */
+/*
+ * Deletes semid's semaphore; its waiters get MAST_E_DLT, in the order in which they would have been
+ * served. semid has none afterwards. MAST_E_NOEXS.
+ */
 mast_coded mast_del_sem(uint8_t *tables, size_t length, uint32_t *list, size_t entries, uint32_t caller,
                        uint32_t semid);
 
 /*
- * Gives one back: the first waiter gets it, or the count goes up by one. MAST_E_NOEXS; MAST_E_QOVR if
- * the count is at its maximum. An interrupt may call it.
+ * Gives one back: a waiter gets it, the first in its order (MAST_TA_TFIFO or MAST_TA_TPRI), or the count
+ * goes up by one. MAST_E_NOEXS; MAST_E_QOVR if the count is at its maximum. An interrupt may call it.
  */
 mast_coded mast_sig_sem(uint8_t *tables, size_t length, const uint32_t *list, size_t entries,
                        uint32_t caller, uint32_t semid);

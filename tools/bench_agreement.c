@@ -17,7 +17,7 @@ static double now(void)
 
 int main(void)
 {
-    static const uint32_t attributes[] = { 0, 4, 16, 20, 32, 36 };
+    static const uint32_t attributes[] = { 0, 4, 16, 20, 32, 36, 84 };
     uint32_t priorities[32], i;
     double best = 1e18;
     int round;
@@ -25,7 +25,7 @@ int main(void)
         priorities[i] = i % 7 + 1;
     mast_start(tables, sizeof tables, 64, priorities, 32);
     for (i = 0; i < 64; i++)
-        mast_create(tables, sizeof tables, 1, i % 10 + 1, 1, attributes[i % 6], i % 6 < 2 ? MAST_MAXIMUM_COUNT : 1);
+        mast_create(tables, sizeof tables, 1, i % 10 + 1, 1, attributes[i % 7], i % 7 < 2 ? MAST_MAXIMUM_COUNT : 1);
     for (round = 0; round < ROUNDS; round++) {
         double began = now();
         for (i = 0; i < CALLS; i++)

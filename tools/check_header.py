@@ -75,6 +75,7 @@ def expected():
     }
     statuses = {f"MAST_{snake(name)}": number(name) for name in defined() if not name.startswith("max")}
     binary, simple, ordered = (set(literals(n)) for n in ("isBinary", "isSimple", "byPriority"))
+    inheriting = set(literals("inherits"))
     plain = set(literals("allowed")) - binary - simple
     (default,) = plain - ordered
     attributes = {
@@ -84,7 +85,11 @@ def expected():
         "MAST_PRIORITY": only(plain & ordered) - default,
         "MAST_BINARY_SEMAPHORE": only(binary - ordered) - default,
         "MAST_SIMPLE_BINARY_SEMAPHORE": only(simple - ordered) - default,
+        # with the class of owners and the order of priorities, and no other number of that class and order has more
+        "MAST_INHERIT_PRIORITY": only(binary & ordered & inheriting) - only((binary & ordered) - inheriting),
     }
+    if not inheriting | binary | simple | ordered <= set(literals("allowed")):
+        sys.exit("a class, an order or inheritance has attributes that create does not allow")
     # waitOf: bit 0 of the options polls, so no other bit is an option
     modulus, polls = literals("waitOf", r"options % ")[0], literals("waitOf", r"options % \d+\) ")[0]
     options = {"MAST_NO_WAIT": polls, "MAST_WAIT": (polls + 1) % modulus, "MAST_DEFAULT_OPTIONS": (polls + 1) % modulus}

@@ -1,6 +1,7 @@
 """Follows the lent bytes from ident's functions down, and fails unless they lead to the words of slots by one way, with each step at one place and
 the two functions at its end as they were read: so that what the last one counts is every look at a slot, none of them twice. The test for 25 is
-not followed. What this can't see, a reader sees in the functions that it names.
+not followed. The next task, which an answer names behind the search, is followed by itself: it has no part in the search, and reads of slots
+those alone that tasks wait on, for their owners. What this can't see, a reader sees in the functions that it names.
 
 check_reads.py           says the way
 check_reads.py --wrong   tries programs that look again, each of which must be refused"""
@@ -12,8 +13,15 @@ CRATES = Path(__file__).resolve().parents[1] / "crates"
 # The C functions, and the step of `perform`, which the session and the runner call.
 ROOTS = ("capi::mast_ident", "capi::mast_ident_looked", "calls::ident::find")
 TEST, TESTED = "agreement::is_agreeing", "manager::ident_looked"
+NEXT, ANSWERED = "lookup::next_task", "calls::answer"
 SEARCH, LOOK, SLOT, WORD = "lookup::looks::search", "lookup::looks::next_look", "tables::slot_word", "words::word"
 FIELDS = ["tables::slot_generation", "tables::slot_live", "tables::slot_name"]
+# Who reads slots for the next task, and by whom: the one that a task waits on is found and its head read, at one place.
+LENT = {
+    "lookup::working::lends_to": ["lookup::working::load_lenders"], "lookup::slot_named": ["lookup::working::lends_to"],
+    "tables::load_head": ["lookup::working::lends_to"], "tables::slot_live": ["lookup::slot_named"], "tables::slot_generation": ["lookup::slot_named"],
+}
+SLOT_READERS = {"tables::load_head", "tables::slot_live", "tables::slot_generation"}
 # The words that are read: by slot_word that of a slot, and by the others N, S and, for the next task, the sequence and the tasks.
 WORDS = {
     SLOT: "SLOTS_AT + SLOT_WORDS * i + k", "tables::task_count": "0", "tables::slot_count": "1", "tables::ready_count": "READY_AT",
@@ -112,7 +120,7 @@ def followed(known, root):
     reached, todo, places = set(), [root], {}
     while todo:
         name = todo.pop()
-        if name in reached or name in (TEST, WORD):
+        if name in reached or name in (TEST, WORD) or name == NEXT != root:
             continue
         reached.add(name)
         each = known.get(name)
@@ -124,11 +132,29 @@ def followed(known, root):
     return reached, places
 
 
-def check_ends(known, reached, places, texts):
-    """The words that are read are the known ones, each once; a slot's by the look alone, which with the search is as it was read."""
+def check_words(known, reached):
+    """The words that are read are the known ones, each once."""
     for name in reached:
         if WORD in known[name].handed and (known[name].handed != [WORD] or known[name].behind != [WORDS.get(name)]):
             raise Fault(f"{name} reads another word than it is known to")
+
+
+def check_next(known):
+    """The next task is chosen without a look of the search, and reads no slot but those that tasks wait on."""
+    reached, places = followed(known, NEXT)
+    check_words(known, reached)
+    if TEST in places or any(name.startswith(LOOK.rsplit("::", 1)[0]) for name in reached):
+        raise Fault("the next task searches, or tests the tables")
+    if set(places.get(SLOT, ())) != SLOT_READERS:
+        raise Fault(f"for the next task slots are read by {', '.join(sorted(set(places.get(SLOT, ()))))}")
+    for name, by in LENT.items():
+        if places.get(name) != by:
+            raise Fault(f"for the next task {name} is handed the bytes by {', '.join(places.get(name, ())) or 'nobody'}")
+
+
+def check_ends(known, reached, places, texts):
+    """The words that are read are the known ones, each once; a slot's by the look alone, which with the search is as it was read."""
+    check_words(known, reached)
     if sorted(places.get(SLOT, ())) != FIELDS or any(places.get(field) != [LOOK] for field in FIELDS):
         raise Fault(f"a slot's words are not read by one look: {', '.join(name for field in FIELDS for name in places.get(field, ()))}")
     for name, body in READ.items():
@@ -154,6 +180,9 @@ def way(texts, root):
         raise Fault(f"{', '.join(loops)}: on the way only the search goes round")
     if places.get(TEST, []) != [TESTED] * (root in ROOTS[:2]):
         raise Fault(f"the test for 25 is made by {', '.join(places.get(TEST, ())) or 'nobody'}")
+    if places.get(NEXT, []) != [ANSWERED] * (root in ROOTS[:2]):
+        raise Fault(f"the next task is asked for by {', '.join(places.get(NEXT, ())) or 'nobody'}")
+    check_next(known)
     return found[::-1]
 
 
@@ -165,6 +194,8 @@ MATCHED = "            return last;\n"
 NAMED = "tables::slot_name(m, i)"
 CALLED = "    calls::ident::ident(m, name)\n"
 FOUND = "    let sought = search(m, name);\n    sought.done"
+LENDERS = "    let lenders = working::load_lenders(m);\n"
+HEAD_READ = "    let s = tables::load_head(m, n as usize - 1);\n"
 WRONG = {
     "the search begins again for the identifier": ("calls::ident", COUNTED, COUNTED + SEARCHED),
     "the match is looked at again": ("calls::ident", "Done(0, last.generation *", "Done(0, tables::slot_generation(m, looked as usize - 1) *"),
@@ -178,6 +209,10 @@ WRONG = {
     "the whole call is made twice": ("manager", CALLED, "    calls::ident::ident(m, name);\n" + CALLED),
     "the test is made again": ("manager", CALLED, "    agreement::is_agreeing(m);\n" + CALLED),
     "the step searches twice": ("calls::ident", FOUND, "    search(m, name);\n" + FOUND),
+    "the next task searches": ("lookup", LENDERS, "    looks::search(m, tables::slot_count(m), 7);\n" + LENDERS),
+    "the next task reads a slot that nobody waits on": ("lookup", LENDERS, "    tables::load_head(m, 0);\n" + LENDERS),
+    "the slot of a wait is read twice": ("lookup::working", HEAD_READ, HEAD_READ + "    tables::load_head(m, n as usize - 1);\n"),
+    "the step asks for the next task": ("calls::ident", FOUND, "    lookup::next_task(m);\n" + FOUND),
     "others can look too": ("lookup::looks", "\nfn next_look(", "\npub fn next_look("),
 }
 

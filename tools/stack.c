@@ -57,9 +57,11 @@ static int32_t code;
 
 static void call(void)
 {
-    static const uint32_t priorities[] = { 1, 2, 3, 3, 2, 1, 9, 8 };
+    static const uint32_t priorities[MAST_MAXIMUM_TASKS] = {
+        1, 2, 3, 3, 2, 1, 9, 8, 7, 7, 7, 7, 7, 7, 7, 7, 7, 7, 7, 7, 7, 7, 7, 7, 7, 7, 7, 7, 7, 7, 7, 7,
+    };
     switch (function) {
-    case START: mast_start(tables, sizeof tables, a, priorities, 8); break;
+    case START: mast_start(tables, sizeof tables, a, priorities, b); break;
     case CREATE: mast_create(tables, sizeof tables, a, b, c, d, e); break;
     case IDENT: mast_ident(tables, sizeof tables, a); break;
     case IDENT_LOOKED: mast_ident_looked(tables, sizeof tables, a, &looked); break;
@@ -129,7 +131,7 @@ static int run_itron(void)
 {
     uint32_t semid, task;
     memset(tables, 0, sizeof tables);
-    run(START, 4, 0, 0, 0);
+    run(START, 4, 8, 0, 0);
     for (semid = 4; semid >= 2; semid--) {
         run(CRE_SEM, 1, semid, 1, 3);
         run(CRE_SEM, 1, semid, 1, 3);
@@ -152,6 +154,48 @@ static int run_itron(void)
     return code == MAST_E_DLT;
 }
 
+/*
+ * 32 tasks with an inheritance semaphore each, 65536 and the task's number, in chains as long as there can be: task k waits on that of
+ * task k + 1, and the last on a queue or on that of the first, which is a cycle. Whether all went as it should.
+ */
+static int run_chain(void)
+{
+    enum { LAST = MAST_MAXIMUM_TASKS, QUEUE = 65536 + LAST + 1 };
+    uint32_t task;
+    memset(tables, 0, sizeof tables);
+    run(START, MAST_MAXIMUM_SLOTS, LAST, 0, 0);
+    e = 1;
+    for (task = 1; task <= LAST; task++)
+        run(CREATE, task, 7, 0, MAST_BINARY_SEMAPHORE | MAST_PRIORITY | MAST_INHERIT_PRIORITY);
+    run(CREATE, 1, 8, 0, MAST_PRIORITY);
+    for (task = 1; task < LAST - 1; task++)
+        run(OBTAIN, task, 65536 + task + 1, MAST_WAIT, MAST_NO_TIMEOUT);
+    for (task = 0; task < 3; task++) {
+        run(OBTAIN, LAST - 1, QUEUE, MAST_WAIT, 1);
+        run(task == 0 ? RELEASE : task == 1 ? TICK : DELETE, task == 2 ? LAST : 0, QUEUE, 0, 0);
+        run(TASK, LAST - 1, 0, 0, 0);
+    }
+    run(OBTAIN, LAST - 1, 65536 + LAST, MAST_WAIT, MAST_NO_TIMEOUT);
+    run(IDENT, 7, 0, 0, 0);
+    run(IDENT_LOOKED, 7, 0, 0, 0);
+    run(CRE_SEM, LAST, 1, 0, 3);
+    run(PREQ_SEM, LAST, 1, 0, 0);
+    run(TWAI_SEM, LAST, 1, 1, 0);
+    run(SIG_SEM, 0, 1, 0, 0);
+    run(WAI_SEM, LAST, 1, 0, 0);
+    run(SIG_SEM, 0, 1, 0, 0);
+    run(REF_SEM, 0, 1, 0, 0);
+    run(DEL_SEM, LAST, 1, 0, 0);
+    if (code != MAST_E_OK)
+        return 0;
+    run(SAVE, 0, 0, 0, 0);
+    memset(other, 0, sizeof other);
+    run(LOAD, answered.value, 0, 0, 0);
+    run(OBTAIN, LAST, 65537, MAST_WAIT, MAST_NO_TIMEOUT);
+    run(FLUSH, 0, 65538, 0, 0);
+    return answered.status == MAST_SUCCESSFUL && mast_task(tables, sizeof tables, 1).value == MAST_UNSATISFIED;
+}
+
 /* Whether the file saved was loaded, after one that is a byte short. */
 static int run_state(void)
 {
@@ -166,7 +210,7 @@ static int run_state(void)
 int main(void)
 {
     uint32_t i, round;
-    run(START, 4, 0, 0, 0);
+    run(START, 4, 8, 0, 0);
     for (round = 0; round < 4; round++) {
         uint32_t id = (round + 1) * 65536 + 1;
         e = round == 1 ? 1 : MAST_MAXIMUM_COUNT;
@@ -180,11 +224,11 @@ int main(void)
         run(RELEASE, round == 1 ? 2 : 1, id, 0, 0);
         run(FLUSH, 0, id, 0, 0);
         run(RELEASE, round == 1 ? 4 : 1, id, 0, 0);
-        run(START, 4, 0, 0, 0);
+        run(START, 4, 8, 0, 0);
         run(DELETE, 1, id, 0, 0);
     }
     memset(tables, 0, sizeof tables);
-    run(START, 4, 0, 0, 0);
+    run(START, 4, 8, 0, 0);
     e = 1;
     run(CREATE, 1, 7, 1, MAST_BINARY_SEMAPHORE | MAST_PRIORITY);
     run(RUN, 0, 0, 0, 0);
@@ -198,6 +242,10 @@ int main(void)
     }
     if (!run_itron()) {
         fprintf(stderr, "the ITRON calls did not come to their end\n");
+        return 1;
+    }
+    if (!run_chain()) {
+        fprintf(stderr, "the chain did not come to its end\n");
         return 1;
     }
     for (i = 0; i < FUNCTIONS; i++)

@@ -1,6 +1,7 @@
 //! Calls and tables to compare on, drawn at random or one by one, and the comparison itself.
 
 pub mod cases;
+mod chains;
 pub mod comparison;
 pub mod coverage;
 pub mod damage;

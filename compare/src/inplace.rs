@@ -1,10 +1,12 @@
 //! The eight calls in place on the lent bytes, without the test for 25.
 
 pub mod agreement;
+mod inheritance;
 pub mod itron;
 pub mod state;
 
 use crate::call::Answer;
+use crate::inplace::inheritance::{anybody_lends, first_served, in_turn, working, Working};
 use crate::layout::*;
 use crate::status::*;
 
@@ -39,17 +41,27 @@ fn set(words: &mut Words, at: usize, number: u32) {
     words[at] = number.to_be_bytes();
 }
 
-/// The most urgent ready task, among equals the first in the sequence, or 0.
+/// The most urgent ready task by working priorities, among equals the first in the sequence, or 0.
 pub fn next_task(words: &Words) -> u32 {
+    let (best, chosen) = most_urgent(words, &Working::Own);
+    // A boost changes nothing here unless somebody lends a number as small as that.
+    if chosen == 0 || !anybody_lends(words, best) {
+        return chosen;
+    }
+    most_urgent(words, &working(words)).1
+}
+
+/// The least number of the ready tasks, and the first of them that works with it.
+fn most_urgent(words: &Words, working: &Working) -> (u32, u32) {
     let (mut best, mut chosen) = (u32::MAX, 0);
     for place in 0..get(words, READY) as usize {
         let number = get(words, SEQUENCE + place);
-        let priority = get(words, task_at(number) + PRIORITY_OF);
+        let priority = working.of(words, number);
         if priority < best {
             (best, chosen) = (priority, number);
         }
     }
-    chosen
+    (best, chosen)
 }
 
 fn answer(words: &Words, status: u32, value: u32) -> Answer {
@@ -107,12 +119,11 @@ fn leave_sequence(words: &mut Words, number: u32) {
 }
 
 fn wake_queue(words: &mut Words, at: usize, ending: u32) {
-    for place in 0..get(words, at + QUEUED) as usize {
-        let number = get(words, at + QUEUE + place);
+    let (waiters, length) = in_turn(words, at);
+    for &number in &waiters[..length] {
         wake(words, number, ending);
-        set(words, at + QUEUE + place, 0);
     }
-    set(words, at + QUEUED, 0);
+    words[at + QUEUED..=at + QUEUED + length].fill([0; 4]);
 }
 
 /// Takes the task at `place` out of the queue and closes the gap.
@@ -125,18 +136,9 @@ fn leave_queue(words: &mut Words, at: usize, place: usize) {
 }
 
 fn join_queue(words: &mut Words, at: usize, caller: u32) {
-    let length = get(words, at + QUEUED) as usize;
-    let queue = at + QUEUE;
-    let mut place = length;
-    if get(words, at + ATTRIBUTES) & PRIORITY != 0 {
-        let priority = get(words, task_at(caller) + PRIORITY_OF);
-        let behind =
-            |&place: &usize| get(words, task_at(get(words, queue + place)) + PRIORITY_OF) > priority;
-        place = (0..length).find(behind).unwrap_or(length);
-    }
-    words.copy_within(queue + place..queue + length, queue + place + 1);
-    set(words, queue + place, caller);
-    set(words, at + QUEUED, length as u32 + 1);
+    let length = get(words, at + QUEUED);
+    set(words, at + QUEUE + length as usize, caller);
+    set(words, at + QUEUED, length + 1);
 }
 
 pub fn start(words: &mut Words, slots: u32, priorities: &[u32]) -> Answer {
@@ -164,7 +166,7 @@ fn refuse_new(name: u32, count: u32, attributes: u32, maximum: u32) -> Option<u3
     if name == 0 {
         return Some(INVALID_NAME);
     }
-    if !matches!(attributes, 0 | 4 | 16 | 20 | 32 | 36) {
+    if !matches!(attributes, 0 | 4 | 16 | 20 | 32 | 36 | 84) {
         return Some(NOT_DEFINED);
     }
     let no_maximum = maximum == 0 || (attributes > PRIORITY && maximum != 1);
@@ -294,8 +296,9 @@ pub fn release(words: &mut Words, caller: u32, id: u32) -> Answer {
         return answer(words, SUCCESSFUL, 0);
     }
     if get(words, at + QUEUED) > 0 {
-        let first = get(words, at + QUEUE);
-        leave_queue(words, at, 0);
+        let place = first_served(words, at);
+        let first = get(words, at + QUEUE + place);
+        leave_queue(words, at, place);
         wake(words, first, SUCCESSFUL);
         if binary {
             set(words, at + OWNER, first);

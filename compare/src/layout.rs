@@ -125,7 +125,8 @@ pub fn set_sequence(bytes: &mut [u8], sequence: &[u32]) {
     set_words(bytes, SEQUENCE, sequence);
 }
 
-fn set_words(bytes: &mut [u8], at: usize, numbers: &[u32]) {
+/// Writes numbers into words one after the other.
+pub fn set_words(bytes: &mut [u8], at: usize, numbers: &[u32]) {
     for (offset, &number) in numbers.iter().enumerate() {
         set_word(bytes, at + offset, number);
     }
@@ -203,7 +204,7 @@ fn read_slot(bytes: &[u8], at: usize) -> Option<Slot> {
 }
 
 fn read_semaphore(bytes: &[u8], at: usize) -> Option<Semaphore> {
-    let (class, order) = split_attributes(word(bytes, at + ATTRIBUTES))?;
+    let (class, order, protocol) = split_attributes(word(bytes, at + ATTRIBUTES))?;
     let length = word(bytes, at + QUEUED) as usize;
     if length > MOST_TASKS {
         return None;
@@ -212,6 +213,7 @@ fn read_semaphore(bytes: &[u8], at: usize) -> Option<Semaphore> {
         name: word(bytes, at + NAME),
         class,
         order,
+        protocol,
         count: word(bytes, at + COUNT),
         owner: word(bytes, at + OWNER),
         nest: word(bytes, at + NEST),

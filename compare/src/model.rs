@@ -1,6 +1,7 @@
 //! The semaphore manager of docs/RULES.md over structs of its own.
 
 mod agree;
+mod inheritance;
 
 use crate::call::{Answer, Call};
 use crate::status::*;
@@ -46,12 +47,20 @@ pub enum Order {
     Priority,
 }
 
-/// A live semaphore; its queue holds task numbers, the first to be served first.
+/// Whether the owner works with the priorities of those that wait for it.
+#[derive(Clone, Copy, Debug, PartialEq, Eq)]
+pub enum Protocol {
+    None,
+    Inheritance,
+}
+
+/// A live semaphore; its queue holds task numbers, the one that has waited longest first.
 #[derive(Clone, Debug, PartialEq, Eq)]
 pub struct Semaphore {
     pub name: u32,
     pub class: Class,
     pub order: Order,
+    pub protocol: Protocol,
     pub count: u32,
     pub owner: u32,
     pub nest: u32,
@@ -70,15 +79,16 @@ type Served = Result<Outcome, u32>;
 
 const DONE: Served = Ok(Outcome::Done(0));
 
-/// Class and order, for the six sums of attributes that create allows.
-pub fn split_attributes(attributes: u32) -> Option<(Class, Order)> {
+/// Class, order and protocol, for the seven sums of attributes that create allows.
+pub fn split_attributes(attributes: u32) -> Option<(Class, Order, Protocol)> {
     match attributes {
-        0 => Some((Class::Counting, Order::Fifo)),
-        4 => Some((Class::Counting, Order::Priority)),
-        16 => Some((Class::Binary, Order::Fifo)),
-        20 => Some((Class::Binary, Order::Priority)),
-        32 => Some((Class::SimpleBinary, Order::Fifo)),
-        36 => Some((Class::SimpleBinary, Order::Priority)),
+        0 => Some((Class::Counting, Order::Fifo, Protocol::None)),
+        4 => Some((Class::Counting, Order::Priority, Protocol::None)),
+        16 => Some((Class::Binary, Order::Fifo, Protocol::None)),
+        20 => Some((Class::Binary, Order::Priority, Protocol::None)),
+        32 => Some((Class::SimpleBinary, Order::Fifo, Protocol::None)),
+        36 => Some((Class::SimpleBinary, Order::Priority, Protocol::None)),
+        84 => Some((Class::Binary, Order::Priority, Protocol::Inheritance)),
         _ => None,
     }
 }
@@ -109,7 +119,11 @@ impl Semaphore {
             Order::Fifo => 0,
             Order::Priority => PRIORITY,
         };
-        class + order
+        let protocol = match self.protocol {
+            Protocol::None => 0,
+            Protocol::Inheritance => INHERITANCE,
+        };
+        class + order + protocol
     }
 }
 
@@ -145,12 +159,6 @@ impl Machine {
             Err(refusal) => (refusal, 0),
         };
         Answer::new(status, value, self.next_task())
-    }
-
-    /// The most urgent ready task, among equals the one that has been ready longest, or 0.
-    pub fn next_task(&self) -> u32 {
-        // Of several least the first is taken.
-        self.ready.iter().copied().min_by_key(|&task| self.priority(task)).unwrap_or(0)
     }
 
     /// The priority of a task, by its number.
@@ -224,7 +232,7 @@ impl Machine {
         if name == 0 {
             return Err(INVALID_NAME);
         }
-        let (class, order) = split_attributes(attributes).ok_or(NOT_DEFINED)?;
+        let (class, order, protocol) = split_attributes(attributes).ok_or(NOT_DEFINED)?;
         if !class.allows(maximum) || count > maximum {
             return Err(INVALID_NUMBER);
         }
@@ -235,7 +243,7 @@ impl Machine {
         let slot = &mut self.slots[index];
         slot.generation += 1;
         let queue = Vec::new();
-        slot.live = Some(Semaphore { name, class, order, count, owner, nest, maximum, queue });
+        slot.live = Some(Semaphore { name, class, order, protocol, count, owner, nest, maximum, queue });
         Ok(Outcome::Done(identifier(slot.generation, index)))
     }
 
@@ -263,11 +271,11 @@ impl Machine {
 
     fn delete(&mut self, caller: u32, id: u32) -> Served {
         self.check_task_caller(caller)?;
+        let woken = self.in_turn(id);
         let (index, semaphore) = self.live(id)?;
         if semaphore.owner != 0 {
             return Err(RESOURCE_IN_USE);
         }
-        let woken = std::mem::take(&mut semaphore.queue);
         self.slots[index].live = None;
         self.wake_all(&woken, OBJECT_WAS_DELETED);
         DONE
@@ -275,7 +283,7 @@ impl Machine {
 
     fn obtain(&mut self, caller: u32, id: u32, options: u32, timeout: u32) -> Served {
         self.check_task_caller(caller)?;
-        let (index, semaphore) = self.live(id)?;
+        let (_, semaphore) = self.live(id)?;
         let binary = semaphore.class == Class::Binary;
         if semaphore.count > 0 {
             semaphore.count -= 1;
@@ -291,28 +299,15 @@ impl Machine {
         if options & NO_WAIT != 0 {
             return Err(UNSATISFIED);
         }
-        self.join_queue(index, caller);
+        semaphore.queue.push(caller);
         self.tasks[caller as usize - 1].state = State::Waiting { id, ticks: ticks_of(timeout) };
         self.ready.retain(|&task| task != caller);
         Ok(Outcome::Waits)
     }
 
-    fn join_queue(&mut self, index: usize, caller: u32) {
-        let tasks = &self.tasks;
-        let urgency = |task: u32| tasks[task as usize - 1].priority;
-        let Some(semaphore) = self.slots[index].live.as_mut() else { return };
-        let place = match semaphore.order {
-            Order::Fifo => semaphore.queue.len(),
-            Order::Priority => {
-                let less_urgent = |&other: &u32| urgency(other) > urgency(caller);
-                semaphore.queue.iter().position(less_urgent).unwrap_or(semaphore.queue.len())
-            }
-        };
-        semaphore.queue.insert(place, caller);
-    }
-
     fn release(&mut self, caller: u32, id: u32) -> Served {
         self.check_caller(caller)?;
+        let first = self.in_turn(id).first().copied();
         let (_, semaphore) = self.live(id)?;
         let binary = semaphore.class == Class::Binary;
         // Owner 0 is nobody, so an interrupt never matches it.
@@ -323,15 +318,15 @@ impl Machine {
             semaphore.nest -= 1;
             return DONE;
         }
-        if semaphore.queue.is_empty() {
+        let Some(first) = first else {
             if semaphore.count == semaphore.maximum {
                 return Err(UNSATISFIED);
             }
             semaphore.count += 1;
             (semaphore.owner, semaphore.nest) = (0, 0);
             return DONE;
-        }
-        let first = semaphore.queue.remove(0);
+        };
+        semaphore.queue.retain(|&queued| queued != first);
         if binary {
             (semaphore.owner, semaphore.nest) = (first, 1);
         }
@@ -341,7 +336,8 @@ impl Machine {
 
     fn flush(&mut self, caller: u32, id: u32) -> Served {
         self.check_caller(caller)?;
-        let woken = std::mem::take(&mut self.live(id)?.1.queue);
+        let woken = self.in_turn(id);
+        self.live(id)?.1.queue.clear();
         self.wake_all(&woken, UNSATISFIED);
         DONE
     }

@@ -22,6 +22,8 @@ pub const MOST_STEPS: usize = 16;
 pub const MOST_CELLS: usize = 64;
 /// Locals of each task.
 pub const LOCALS: usize = 8;
+/// The attributes of semaphores that sections may use.
+pub const GUARDS: [u32; 3] = [16, 20, 84];
 
 /// A step with its numbers as handed in; `Unknown` is anything handed in that is none of the four.
 #[derive(Clone, Copy, Debug, PartialEq, Eq)]

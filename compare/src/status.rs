@@ -21,6 +21,7 @@ pub const WAITING: u32 = 100;
 pub const PRIORITY: u32 = 4;
 pub const BINARY: u32 = 16;
 pub const SIMPLE_BINARY: u32 = 32;
+pub const INHERITANCE: u32 = 64;
 
 pub const NO_WAIT: u32 = 1;
 

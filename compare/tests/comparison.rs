@@ -4,12 +4,13 @@ use compare::call::{Answer, Call, Manager};
 use compare::fuzz::comparison::{Comparison, Difference};
 use compare::fuzz::{damage, sequence};
 use compare::inplace::agreement::Tested;
-use compare::layout::{set_sequence, task_at, word, READY, SEQUENCE};
+use compare::layout::{read, set_sequence, word, READY, SEQUENCE};
 
 fn random_parts(comparison: &mut Comparison, sequences: u64) -> Result<(), Box<Difference>> {
     for seed in 0..sequences {
         let machine = sequence::run(comparison, seed)?;
         sequence::run_grants(comparison, seed, &machine)?;
+        sequence::run_chains(comparison, seed)?;
         damage::at_random(comparison, seed, &machine)?;
     }
     Ok(())
@@ -90,9 +91,9 @@ fn the_lowest_number_among_equals_is_found() {
         if answer.status == 25 {
             return answer;
         }
-        let priority = |number: u32| word(tables, task_at(number));
+        let working = read(tables).expect("calls keep the tables in agreement").working();
         let ready = sequence(tables);
-        let urgent = ready.iter().copied().min_by_key(|&number| (priority(number), number));
+        let urgent = ready.iter().copied().min_by_key(|&number| (working[number as usize - 1], number));
         Answer { next: urgent.unwrap_or(0), ..answer }
     });
     assert!(found.found.next < found.expected.next && found.memory.is_none());

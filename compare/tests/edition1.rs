@@ -195,7 +195,7 @@ fn what_the_tables_say() {
         loaded(&edited(&[edit]));
     }
     // Counting, at a count that only the greatest maximum allows, made one of the binary classes.
-    for attributes in [16, 20, 32, 36] {
+    for attributes in [16, 20, 32, 36, 84] {
         refused(&edited(&[(at(3, 3), attributes)]), Fault::Agreement);
         loaded(&edited(&[(at(3, 3), attributes), (at(3, 4), 1)]));
     }
@@ -203,7 +203,9 @@ fn what_the_tables_say() {
         refused(&edited(&[edit]), Fault::Agreement);
     }
     refused(&edited(&[(at(0, 1), 2)]), Fault::Live);
-    refused(&edited(&[(at(0, 3), 48)]), Fault::Attributes);
+    for attributes in [48, 64, 68, 80, 96, 100, 116] {
+        refused(&edited(&[(at(0, 3), attributes)]), Fault::Attributes);
+    }
     // What a free slot still has.
     for field in 2..RECORD {
         refused(&edited(&[(at(4, field), 1)]), Fault::Rewritten);

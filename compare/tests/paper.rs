@@ -132,9 +132,9 @@ fn task_rules() {
     edited(&[], true);
     edited(&[(task_at(2), 0)], false);
     edited(&[(task_at(2), 256)], false);
-    // Task 3 queues behind task 2, so its number may rise but not fall below.
+    // Task 3 queues behind task 2, whatever their priorities are.
     edited(&[(task_at(3), 255)], true);
-    edited(&[(task_at(3), 5)], false);
+    edited(&[(task_at(3), 5)], true);
     edited(&[(task_at(2) + 1, 0)], false);
     edited(&[(task_at(2) + 2, 65538)], false);
     edited(&[(task_at(2) + 3, 0)], true);
@@ -165,6 +165,12 @@ fn slot_rules() {
     edited(&[(binary + 3, 16)], true);
     edited(&[(binary + 3, 4)], false);
     edited(&[(binary + 3, 48)], false);
+    edited(&[(binary + 3, 84)], true);
+    for attributes in [64, 68, 80, 96, 100, 116] {
+        edited(&[(binary + 3, attributes)], false);
+    }
+    edited(&[(counting + 3, 84), (counting + 7, 1)], false);
+    edited(&[(counting + 3, 84), (counting + 5, 3), (counting + 6, 1), (counting + 7, 1)], true);
     edited(&[(binary + 4, 1)], false);
     edited(&[(binary + 5, 2)], false);
     edited(&[(binary + 5, 4)], false);
@@ -218,6 +224,9 @@ fn maximum_rules() {
         (16, 1, 1, true),
         (20, 1, 2, false),
         (16, 2, 2, false),
+        (84, 1, 1, true),
+        (84, 1, 2, false),
+        (84, 2, 2, false),
     ] {
         edited(&live(attributes, count, maximum), wanted);
     }
@@ -226,8 +235,10 @@ fn maximum_rules() {
 #[test]
 fn queue_rules() {
     let (binary, counting) = (slot_at(0), slot_at(1));
-    // Equal priorities may stand either way.
+    // A queue may stand in any order, with PRIORITY too.
     edited(&[(binary + 9, 3), (binary + 10, 2)], true);
+    edited(&[(binary + 9, 3), (binary + 10, 2), (task_at(2), 5), (task_at(3), 255)], true);
+    edited(&[(binary + 9, 3), (binary + 10, 2), (binary + 3, 84)], true);
     edited(&[(binary + 10, 2)], false);
     edited(&[(binary + 8, 3), (binary + 11, 2)], false);
     edited(&[(binary + 8, 1)], false);

@@ -32,6 +32,19 @@ fn equals_of_the_paper() {
     session(input, "0 0 1\n0 65537 1\n100 0 2\n0 0 2\n");
 }
 
+/// Radio 10, logger 20, display 30: the display holds the bus, and the radio waits for it.
+#[test]
+fn the_radio_waits_for_the_display() {
+    for (attributes, next) in [(84, 3), (20, 2)] {
+        let input = format!(
+            "start 1 10 20 30\ncreate 3 7 0 {attributes} 1\nobtain 1 65537 0 9\nrelease 3 65537\n\
+release 1 65537\ncreate 1 7 0 80 1\n"
+        );
+        let wanted = format!("0 0 1\n0 65537 1\n100 0 {next}\n0 0 1\n0 0 1\n11 0 1\n");
+        session(input.as_bytes(), &wanted);
+    }
+}
+
 /// Task 1 waits with this timeout; who is next so many ticks later.
 fn next_after(timeout: &str, ticks: usize) -> u8 {
     let begun = format!("start 1 10 20\ncreate 2 77 0 0 9\nobtain 1 65537 0 {timeout}\n");
@@ -230,4 +243,18 @@ fn random_sessions_cut_anywhere() {
         assert!(output == wanted, "seed {seed}, cut at random");
     }
     assert!(bad > 1000, "broken lines occur");
+}
+
+#[test]
+fn working_priorities_decide_in_random_sessions() {
+    let mut decided = 0;
+    for input in (0..100).map(|seed| random_session(seed, 300)) {
+        assert_eq!(run_session(&input), session_of_the_model(&input));
+        let mut machine = Machine::default();
+        for call in input.split(|&byte| byte == b'\n').filter_map(parse_line) {
+            let next = machine.call(&call).next;
+            decided += usize::from(next != machine.next_by(&machine.working_with(0)));
+        }
+    }
+    assert!(decided > 100, "{decided} answers");
 }

@@ -21,7 +21,7 @@
 enum { IDLE, RADIO, DISPLAY, TASKS = DISPLAY };
 
 /* In bytes. docs/TARGETS.md has what each call takes; a switch adds 68 bytes, and the task's own functions come on top. */
-enum { TASK_STACK = 1792, IDLE_STACK = 1600, HANDLER_STACK = 1536 };
+enum { TASK_STACK = 2976, IDLE_STACK = 2784, HANDLER_STACK = 2720 };
 #define UNTOUCHED 0x5AFE57AC /* stands at the far end of each stack */
 
 static uint8_t tables[MAST_TABLES_LENGTH]; /* all zeros: not started yet */

@@ -8,7 +8,8 @@ measure.py --bars TARGET BYTES STACK [CRATE]  fails if code and constants, or th
 Each crate's objects are measured without the others', as a firmware links them that calls no function of another crate. mast.wasm has all.
 
 The stack of a function is its frame, which the compiler reports (-fstack-usage), and that of the deepest chain of functions it
-calls, taken from the assembly: any mention of another function counts as a call. What memcpy and memset take is not in it."""
+calls, taken from the assembly: any mention of another function counts as a call. A function that calls itself counts as often as
+DEPTHS says, and one that does and is not there has no bound. What memcpy and memset take is not in it."""
 import re
 import struct
 import sys
@@ -18,6 +19,9 @@ from exported import CRATES, ROOT, functions_of
 
 NEEDED = {"memcpy", "memmove", "memset"}
 SUPPORT = ("support", "division")
+# The frames of a function that calls itself, at the most: `priority` has a number of links left, which falls by one at each call to 0. It begins
+# with N, at most 32, or with 0.
+DEPTHS = {"lookup.working.priority": 32 + 1}
 TOKEN = re.compile(r'"([^"]+)"|([A-Za-z_][\w.]*)')
 
 
@@ -123,7 +127,8 @@ def stacks(target, crate):
     def deepest(name, above):
         if name in above:
             fail(f"{target}: {name} calls itself, so its stack has no bound")
-        return own[name] + max((deepest(each, above + (name,)) for each in graph[name]), default=0)
+        others = graph[name] - {name} if name in DEPTHS else graph[name]
+        return DEPTHS.get(name, 1) * own[name] + max((deepest(each, above + (name,)) for each in others), default=0)
 
     return {name: deepest(name, ()) for name in names}
 

@@ -2,7 +2,7 @@
  * Calls on a painted stack, which tells how deep each went, and on a board how long it took. What makes the call says first, by
  * STACK_POINTER(called_at), where the function that it calls begins.
  */
-enum { STACK = 4096 };
+enum { STACK = 6144 };
 
 /* What the calls of a function took at most: bytes of stack, and counts of the clock. */
 typedef struct {

@@ -57,6 +57,7 @@ fn run(comparison: &mut Comparison, settings: &Settings) -> Result<u64, Box<Diff
 fn random_part(comparison: &mut Comparison, seed: u64) -> Result<(), Box<Difference>> {
     let machine = sequence::run(comparison, seed)?;
     sequence::run_grants(comparison, seed, &machine)?;
+    sequence::run_chains(comparison, seed)?;
     damage::at_random(comparison, seed, &machine)
 }
 

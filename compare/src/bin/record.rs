@@ -39,6 +39,7 @@ fn record_classic(recorder: &mut FileRecorder, calls: u64, seed: u64) -> Result<
     while comparison.calls == 0 || comparison.calls + first < calls {
         let seed = seeds.next().ok_or("no seed is left")?;
         let machine = sequence::run(&mut comparison, seed).map_err(said)?;
+        sequence::run_chains(&mut comparison, seed).map_err(said)?;
         damage::at_random(&mut comparison, seed, &machine).map_err(said)?;
     }
     let gaps = comparison.coverage.gaps();

@@ -1,6 +1,7 @@
 //! The cases that the rules name, P1 to P15 among them, run on any manager.
 
 mod idents;
+mod inheritance;
 mod maxima;
 mod timeouts;
 
@@ -312,6 +313,7 @@ fn worked_session(case: &mut Case) {
 pub fn run(subject: &mut dyn Manager) -> Result<u64, String> {
     let mut done = 0;
     let of_parts = idents::CASES.into_iter().chain(maxima::CASES).chain(timeouts::CASES);
+    let of_parts = of_parts.chain(inheritance::CASES);
     for (name, run_case) in CASES.into_iter().chain(of_parts) {
         let mut case = Case { subject, tables: Lent::new(&[0; LENGTH], 0), done: 0, failed: None };
         run_case(&mut case);

@@ -1,11 +1,14 @@
 //! What has occurred in a comparison, and what has to.
 
 mod equals;
+mod inheritance;
 mod maxima;
+mod moment;
 mod searches;
 mod timeouts;
 
 pub use equals::next_passes_a_lower_equal;
+pub use inheritance::has_queue_against_priorities;
 pub use timeouts::Waits;
 
 use std::collections::BTreeMap;
@@ -46,8 +49,8 @@ const HAPPENINGS: [&str; 32] = [
     "obtain nested",
     "obtain refused at nest 4294967295",
     "obtain of a simple binary waits",
-    "obtain waits behind an equal priority and before another",
-    "obtain waits at the rear of FIFO before a less urgent",
+    "obtain waits at the rear of FIFO behind a less urgent",
+    "obtain waits at the rear of PRIORITY behind a less urgent",
     "obtain with 32 tasks",
     "obtain of a stale identifier",
     "obtain makes the last ready task wait",
@@ -93,6 +96,7 @@ impl Coverage {
         if let Some(machine) = machine {
             self.damaged_in_agreement(machine);
             self.damaged_ticks(machine);
+            self.damaged_queues(machine);
         } else if let Some(machine) = layout::read_with_sequence_mended(bytes) {
             let places: Vec<u32> = (SEQUENCE..WORDS).map(|at| word(bytes, at)).collect();
             self.damaged_sequence(&machine, word(bytes, READY), &places);
@@ -129,6 +133,7 @@ impl Coverage {
             Call::Start { .. } => {}
         }
         self.saw_equals(before, call, answer, after);
+        self.saw_inheritance(before, call, answer, after);
         self.saw_waits(before, call, answer, after);
     }
 
@@ -175,12 +180,11 @@ impl Coverage {
         let Some(live) = after.semaphore(id) else { return };
         let urgency = |task: &u32| after.tasks[*task as usize - 1].priority;
         let Some(place) = live.queue.iter().position(|&task| task == caller) else { return };
-        let tie = place > 0 && urgency(&live.queue[place - 1]) == urgency(&caller);
-        let before_another = place + 1 < live.queue.len();
-        self.happened("obtain waits behind an equal priority and before another", tie && before_another);
-        let overtaken = live.queue[..place].iter().any(|task| urgency(task) > urgency(&caller));
-        let unfair = live.order == Order::Fifo && overtaken;
-        self.happened("obtain waits at the rear of FIFO before a less urgent", unfair);
+        let name = match live.order {
+            Order::Fifo => "obtain waits at the rear of FIFO behind a less urgent",
+            Order::Priority => "obtain waits at the rear of PRIORITY behind a less urgent",
+        };
+        self.happened(name, live.queue[..place].iter().any(|task| urgency(task) > urgency(&caller)));
     }
 
     fn saw_release(&mut self, before: &Machine, caller: u32, id: u32, answer: Answer) {
@@ -227,7 +231,8 @@ impl Coverage {
         let foreign = self.statuses.keys().filter(|(kind, status)| !STATUSES[*kind].contains(status));
         gaps.extend(foreign.map(|(kind, status)| format!("{} answered {status}", KINDS[*kind])));
         let of_parts = equals::wanted().chain(searches::wanted()).chain(maxima::wanted());
-        let wanted = HAPPENINGS.into_iter().chain(of_parts).chain(timeouts::wanted());
+        let of_parts = of_parts.chain(timeouts::wanted()).chain(inheritance::wanted());
+        let wanted = HAPPENINGS.into_iter().chain(of_parts);
         let missing = wanted.filter(|name| !self.happenings.contains_key(name));
         gaps.extend(missing.map(|name| format!("never seen: {name}")));
         gaps

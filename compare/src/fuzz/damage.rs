@@ -219,10 +219,10 @@ fn wait(caller: u32, id: u32, timeout: u32) -> Call {
     Call::Obtain { caller, id, options: 0, timeout }
 }
 
-/// Several agreeing tables: unstarted, without a semaphore, small, of equals, crowded, and with one long queue.
+/// Several agreeing tables: unstarted, without a semaphore, small, of equals, crowded, with one long queue, and with chains.
 pub fn bases() -> Vec<Machine> {
     let fresh = made_by(&[Call::Start { slots: 1, priorities: vec![1] }]);
-    vec![Machine::default(), fresh, small(), equals(), crowded(), long_queue()]
+    vec![Machine::default(), fresh, small(), equals(), crowded(), long_queue(), chains()]
 }
 
 /// Six tasks of one priority: 4, 3, 5 and 2 are ready in this order, 1 and 6 wait.
@@ -277,6 +277,21 @@ fn crowded_create(slot: u32) -> Call {
         _ => 1,
     };
     Call::Create { caller: 32, name: 1 + slot % 40, count: slot / 6 % 2, attributes, maximum }
+}
+
+/// Task 5 waits for 4, 4 for 3, 3 and 1 for 2, which is ready; 8 and 9 for each other, and 10 for 8; 6 on a 20 for 7, which is ready.
+fn chains() -> Machine {
+    let priorities = vec![3, 9, 7, 5, 8, 2, 6, 12, 11, 4];
+    let mut calls = vec![Call::Start { slots: 7, priorities }];
+    for (owner, attributes) in [(2, 84), (3, 84), (4, 84), (8, 84), (9, 84), (7, 20)] {
+        calls.push(Call::create(owner, 9, 0, attributes));
+    }
+    for (task, slot) in [(3, 1), (1, 1), (4, 2), (5, 3), (8, 5), (9, 4), (10, 4), (6, 6)] {
+        calls.push(wait(task, 65536 + slot, if task == 4 { 2 } else { FOREVER }));
+    }
+    let made = made_by(&calls);
+    assert_eq!(made.working(), [3, 3, 5, 5, 8, 2, 6, 4, 4, 4], "what the tasks work with");
+    made
 }
 
 /// 31 tasks wait in one PRIORITY queue for a binary semaphore, one of them as long as no timeout says any more.

@@ -1,6 +1,7 @@
 //! Random calls, weighted so that what matters really occurs.
 
 use crate::call::{Answer, Call};
+use crate::fuzz::chains::draw_link;
 use crate::fuzz::rng::Rng;
 use crate::model::{identifier, Class, Machine, Order, Slot};
 use crate::status::*;
@@ -17,8 +18,18 @@ pub struct Plan {
     polls: usize,
     /// The share of releases that serve the longest FIFO queue, in a hundred.
     served: usize,
+    /// The share of calls that build chains of inheritance semaphores or take them apart, in a hundred.
+    chains: usize,
+    /// The attributes that creates are drawn from.
+    attributes: &'static Attributes,
     /// How a timeout is drawn.
     timeout: fn(&mut Rng) -> u32,
+}
+
+/// Attributes that create allows, and some that it does not.
+struct Attributes {
+    allowed: &'static [u32],
+    wrong: &'static [u32],
 }
 
 /// Ticks left that matter to the rules, the most that tables can hold among them.
@@ -36,8 +47,17 @@ const WEIGHTS: [[u32; 9]; 5] = [
 /// Weights of the calls of a run of grants.
 const GRANTING: [u32; 9] = [0, 3, 0, 1, 45, 42, 1, 8, 0];
 
-const ATTRIBUTES: [u32; 6] = [0, 4, 16, 20, 32, 36];
-const WRONG_ATTRIBUTES: [u32; 11] = [1, 2, 3, 8, 5, 48, 52, 64, 128, 0x104, u32::MAX];
+/// Without inheritance, so that measured sequences stay what they were.
+const PLAIN: Attributes = Attributes {
+    allowed: &[0, 4, 16, 20, 32, 36],
+    wrong: &[1, 2, 3, 8, 5, 48, 52, 64, 128, 0x104, u32::MAX],
+};
+
+/// The bit for inheritance is tried with every other sum.
+const ALL: Attributes = Attributes {
+    allowed: &[0, 4, 16, 20, 32, 36, 84, 84],
+    wrong: &[1, 2, 8, 5, 48, 52, 64, 68, 80, 80, 96, 100, 112, 116, 128, 148, 212, 340, 0x104, u32::MAX],
+};
 
 impl Plan {
     pub fn draw(rng: &mut Rng) -> Self {
@@ -55,6 +75,8 @@ impl Plan {
             weights: rng.pick(&WEIGHTS),
             polls: rng.pick(&[5, 20]),
             served: 0,
+            chains: rng.pick(&[0, 0, 0, 20, 40]),
+            attributes: &ALL,
             timeout: draw_timeout,
         }
     }
@@ -62,7 +84,44 @@ impl Plan {
     /// A sequence that no wait for ever brings to a halt, with weights in the order of `KINDS`.
     pub fn steady(slots: u32, priorities: Vec<u32>, weights: [u32; 9]) -> Self {
         let timeout = |rng: &mut Rng| rng.pick(&[5, 20, 100, 500]);
-        Plan { steps: 0, edits: 0, slots, priorities, weights, polls: 10, served: 0, timeout }
+        let attributes = &PLAIN;
+        Plan {
+            steps: 0,
+            edits: 0,
+            slots,
+            priorities,
+            weights,
+            polls: 10,
+            served: 0,
+            chains: 0,
+            attributes,
+            timeout,
+        }
+    }
+
+    /// The same with a share of calls, in a hundred, that keep chains of inheritance semaphores in use.
+    pub fn steady_chains(slots: u32, priorities: Vec<u32>, weights: [u32; 9], chains: usize) -> Self {
+        // A deadlock lasts as long as the shortest wait in it.
+        let timeout = |rng: &mut Rng| rng.pick(&[2, 3, 5, 20]);
+        Plan { chains, attributes: &ALL, timeout, ..Plan::steady(slots, priorities, weights) }
+    }
+
+    /// Mostly calls that build chains and take them apart, for tasks of many priorities or few.
+    pub fn chaining(rng: &mut Rng) -> Self {
+        let tasks = rng.pick(&[3, 4, 6, 8, 12, 32]);
+        let spread = rng.pick(&[2, 4, 10, 255]);
+        Plan {
+            steps: 300,
+            edits: rng.pick(&[0, 2]),
+            slots: rng.pick(&[6, 12, 64]),
+            priorities: (0..tasks).map(|_| rng.between(1, spread)).collect(),
+            weights: WEIGHTS[0],
+            polls: 5,
+            served: 0,
+            chains: 85,
+            attributes: &ALL,
+            timeout: draw_timeout,
+        }
     }
 
     /// Obtains and releases on few semaphores.
@@ -76,6 +135,8 @@ impl Plan {
             weights: GRANTING,
             polls: 5,
             served: 40,
+            chains: 0,
+            attributes: &ALL,
             timeout: draw_timeout,
         }
     }
@@ -96,6 +157,13 @@ impl Plan {
         if machine.tasks.is_empty() && rng.chance(70) {
             return self.draw_start(rng);
         }
+        // Plans without such a share draw no number for it, so that their calls stay what they were.
+        if self.chains > 0 && rng.chance(self.chains) {
+            let timeout = (self.timeout)(rng);
+            if let Some(call) = draw_link(rng, machine, timeout) {
+                return call;
+            }
+        }
         let kind = rng.weighted(&self.weights);
         self.draw_kind(rng, machine, kind)
     }
@@ -104,7 +172,7 @@ impl Plan {
     pub fn draw_kind(&self, rng: &mut Rng, machine: &Machine, kind: usize) -> Call {
         match kind {
             0 => self.draw_start(rng),
-            1 => draw_create(rng, machine),
+            1 => self.draw_create(rng, machine),
             2 => Call::Ident { name: draw_name(rng) },
             3 => Call::Delete { caller: draw_caller(rng, machine, 3), id: draw_id(rng, machine) },
             4 => self.draw_obtain(rng, machine),
@@ -146,7 +214,6 @@ impl Plan {
     }
 
     fn draw_release(&self, rng: &mut Rng, machine: &Machine) -> Call {
-        // Plans without such a share draw no number for it, so that their calls stay what they were.
         if self.served > 0 && rng.chance(self.served) {
             if let Some(id) = longest_queue(machine) {
                 return Call::Release { caller: 0, id };
@@ -156,6 +223,22 @@ impl Plan {
         let caller = draw_caller(rng, machine, 20);
         let owner = binary_owner(machine, id).filter(|_| rng.chance(70));
         Call::Release { caller: owner.unwrap_or(caller), id }
+    }
+
+    fn draw_create(&self, rng: &mut Rng, machine: &Machine) -> Call {
+        let caller = draw_caller(rng, machine, 3);
+        let any = rng.word();
+        let attributes = match rng.below(100) {
+            0 => any,
+            1..8 => rng.pick(self.attributes.wrong),
+            _ => rng.pick(self.attributes.allowed),
+        };
+        let count = match attributes & (BINARY + SIMPLE_BINARY) {
+            0 => rng.pick(&[0, 0, 1, 2, 3, 11, 12, u32::MAX - 1, u32::MAX, any]),
+            _ => rng.pick(&[0, 0, 0, 1, 1, 1, 2, u32::MAX]),
+        };
+        let maximum = draw_maximum(rng, attributes, count);
+        Call::Create { caller, name: draw_name(rng), count, attributes, maximum }
     }
 }
 
@@ -190,22 +273,6 @@ pub fn draw_ticks(rng: &mut Rng, call: &Call, answer: Answer, percent: usize) ->
     } else {
         0
     }
-}
-
-fn draw_create(rng: &mut Rng, machine: &Machine) -> Call {
-    let caller = draw_caller(rng, machine, 3);
-    let any = rng.word();
-    let attributes = match rng.below(100) {
-        0 => any,
-        1..8 => rng.pick(&WRONG_ATTRIBUTES),
-        _ => rng.pick(&ATTRIBUTES),
-    };
-    let count = match attributes & (BINARY + SIMPLE_BINARY) {
-        0 => rng.pick(&[0, 0, 1, 2, 3, 11, 12, u32::MAX - 1, u32::MAX, any]),
-        _ => rng.pick(&[0, 0, 0, 1, 1, 1, 2, u32::MAX]),
-    };
-    let maximum = draw_maximum(rng, attributes, count);
-    Call::Create { caller, name: draw_name(rng), count, attributes, maximum }
 }
 
 /// A maximum, mostly one that create allows: its limits, small ones, the count and what is next to it.

@@ -1,10 +1,12 @@
 //! Random damage to agreeing tables, some of which leaves them in agreement.
 
 mod maximum;
+mod queue;
 mod ready;
 
 use crate::fuzz::generate::TICKS_LEFT;
 use crate::fuzz::mutate::maximum::damage_maximum;
+use crate::fuzz::mutate::queue::{damage_queue, set_attributes};
 use crate::fuzz::mutate::ready::{damage_sequence, join_sequence, leave_sequence};
 use crate::fuzz::rng::Rng;
 use crate::layout::*;
@@ -13,7 +15,7 @@ use crate::status::*;
 
 /// Does one random damage and says which.
 pub fn mutate(rng: &mut Rng, machine: &Machine, bytes: &mut [u8]) -> String {
-    match rng.below(17) {
+    match rng.below(20) {
         0 => flip_bit(rng, bytes),
         1 | 2 => set_some_word(rng, machine, bytes),
         3 => swap_words(rng, machine, bytes),
@@ -24,6 +26,8 @@ pub fn mutate(rng: &mut Rng, machine: &Machine, bytes: &mut [u8]) -> String {
         8 | 9 => add_waiter(rng, machine, bytes),
         10 | 11 => damage_maximum(rng, machine, bytes),
         12 => set_ticks(rng, machine, bytes),
+        13 | 14 => damage_queue(rng, machine, bytes),
+        15 => set_attributes(rng, machine, bytes),
         _ => damage_sequence(rng, machine, bytes),
     }
 }

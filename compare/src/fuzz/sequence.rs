@@ -7,14 +7,15 @@ use crate::fuzz::lent::Lent;
 use crate::fuzz::rng::Rng;
 use crate::history::History;
 use crate::layout::{self, *};
-use crate::model::{identifier, Class, Machine, State};
+use crate::model::{identifier, Class, Machine, Order, State};
 use crate::status::*;
 
 /// How often in a hundred a wait with the standard limit or for ever is followed by about as many ticks as that limit has.
 const BURSTS: usize = 2;
 
-/// Makes the seed of a sequence another one for the run of grants behind it.
+/// Make the seed of a sequence another one for the runs of grants and of chains behind it.
 const GRANTS: u64 = 1 << 63;
+const CHAINS: u64 = 1 << 62;
 
 /// A sequence under way: the machine, the bytes that have to be lent then, and the history since the tables were last edited.
 struct Sequence<'a, 'b> {
@@ -89,7 +90,36 @@ pub fn run_grants(
     if small {
         plan.opening(&mut rng).iter().try_for_each(|call| sequence.step(call).map(|_| ()))?;
     }
+    // Half of the histories begin once more on the way, with several waiters to be found.
+    let mut again = rng.chance(50);
     for _ in 0..plan.steps {
+        if again && has_long_queue(&sequence.machine) {
+            sequence.history = History::begin(&sequence.expected);
+            again = false;
+        }
+        let call = plan.draw_call(&mut rng, &sequence.machine);
+        sequence.step(&call)?;
+    }
+    Ok(())
+}
+
+/// Whether four or more wait in a FIFO queue of a semaphore that has an account.
+fn has_long_queue(machine: &Machine) -> bool {
+    machine.live_slots().any(|(_, live)| {
+        live.class != Class::Binary && live.order == Order::Fifo && live.queue.len() >= 4
+    })
+}
+
+/// Runs calls that build chains of inheritance semaphores and take them apart.
+pub fn run_chains(comparison: &mut Comparison, seed: u64) -> Result<(), Box<Difference>> {
+    let mut rng = Rng::new(seed ^ CHAINS);
+    let plan = Plan::chaining(&mut rng);
+    let place = Place { part: "chains", seed, step: 0 };
+    let mut sequence = Sequence::begin(comparison, place, Machine::default(), rng.below(4));
+    for _ in 0..plan.steps {
+        if rng.chance(plan.edits) {
+            sequence.edit(&mut rng);
+        }
         let call = plan.draw_call(&mut rng, &sequence.machine);
         sequence.step(&call)?;
     }
@@ -102,7 +132,7 @@ pub fn edit(rng: &mut Rng, machine: &Machine, bytes: &mut [u8]) {
         return;
     }
     let index = rng.below(machine.slots.len());
-    match rng.below(7) {
+    match rng.below(9) {
         0 => edit_every_semaphore(rng, machine, bytes),
         1 => edit_semaphore(rng, machine, index, bytes),
         2 => edit_generation(rng, machine, index, bytes),
@@ -114,17 +144,39 @@ pub fn edit(rng: &mut Rng, machine: &Machine, bytes: &mut [u8]) {
             }
         }
         4 => edit_sequence(rng, machine, bytes),
+        5 => edit_queues(rng, machine, bytes),
+        6 => edit_protocol(rng, machine, index, bytes),
         _ => edit_task(rng, machine, bytes),
     }
 }
 
+fn shuffled(rng: &mut Rng, numbers: &[u32]) -> Vec<u32> {
+    let mut shuffled = numbers.to_vec();
+    for last in (1..shuffled.len()).rev() {
+        shuffled.swap(last, rng.below(last + 1));
+    }
+    shuffled
+}
+
 /// The ready tasks in any order.
 fn edit_sequence(rng: &mut Rng, machine: &Machine, bytes: &mut [u8]) {
-    let mut sequence = machine.ready.clone();
-    for last in (1..sequence.len()).rev() {
-        sequence.swap(last, rng.below(last + 1));
+    set_sequence(bytes, &shuffled(rng, &machine.ready));
+}
+
+/// Every queue in any order.
+fn edit_queues(rng: &mut Rng, machine: &Machine, bytes: &mut [u8]) {
+    for (index, slot) in machine.slots.iter().enumerate() {
+        let queue = slot.live.as_ref().map_or(&[][..], |live| &live.queue);
+        set_words(bytes, slot_at(index) + QUEUE, &shuffled(rng, queue));
     }
-    set_sequence(bytes, &sequence);
+}
+
+/// A binary semaphore lends from now on, or no longer.
+fn edit_protocol(rng: &mut Rng, machine: &Machine, index: usize, bytes: &mut [u8]) {
+    let live = machine.slots[index].live.as_ref();
+    if live.is_some_and(|live| live.class == Class::Binary) {
+        set_word(bytes, slot_at(index) + ATTRIBUTES, rng.pick(&[16, 20, 84, 84]));
+    }
 }
 
 fn edit_every_semaphore(rng: &mut Rng, machine: &Machine, bytes: &mut [u8]) {

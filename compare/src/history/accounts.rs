@@ -119,7 +119,7 @@ impl Accounts {
 
     /// Opens an account, unless the class is binary with an owner.
     pub fn open(&mut self, id: u32, attributes: u32, initial: u32) {
-        let Some((class, order)) = split_attributes(attributes) else { return };
+        let Some((class, order, _)) = split_attributes(attributes) else { return };
         if class != Class::Binary {
             let waiters = Vec::new();
             self.live.insert(id, Account { class, order, initial, grants: 0, releases: 0, waiters });

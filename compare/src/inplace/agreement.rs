@@ -96,20 +96,14 @@ fn queued_tasks(task_words: &[[u8; 4]], tasks: u32, index: usize, slot: &[[u8; 4
     }
     let id = generation << 16 | (index as u32 + 1);
     let attributes = get(slot, ATTRIBUTES);
-    let queued = waiters_on(task_words, tasks, id, attributes, &slot[QUEUE..QUEUE + length])?;
+    let queued = waiters_on(task_words, tasks, id, &slot[QUEUE..QUEUE + length])?;
     let state = [get(slot, COUNT), get(slot, OWNER), get(slot, NEST), get(slot, MAXIMUM)];
     holds_together(tasks, attributes, state, queued).then_some(queued)
 }
 
 /// The tasks of one queue as bits, each of which waits on `id` and stands there once.
-fn waiters_on(
-    task_words: &[[u8; 4]],
-    tasks: u32,
-    id: u32,
-    attributes: u32,
-    queue: &[[u8; 4]],
-) -> Option<u32> {
-    let (mut queued, mut last) = (0u32, 0);
+fn waiters_on(task_words: &[[u8; 4]], tasks: u32, id: u32, queue: &[[u8; 4]]) -> Option<u32> {
+    let mut queued = 0u32;
     for entry in queue {
         let number = u32::from_be_bytes(*entry);
         if number == 0 || number > tasks {
@@ -117,13 +111,10 @@ fn waiters_on(
         }
         let task = &task_words[(number as usize - 1) * TASK_WORDS..][..TASK_WORDS];
         let bit = 1 << (number - 1);
-        let priority = get(task, PRIORITY_OF);
-        let in_order = attributes & PRIORITY == 0 || last <= priority;
-        if queued & bit != 0 || get(task, ANSWER) != WAITING || get(task, WAITS_ON) != id || !in_order {
+        if queued & bit != 0 || get(task, ANSWER) != WAITING || get(task, WAITS_ON) != id {
             return None;
         }
         queued |= bit;
-        last = priority;
     }
     Some(queued)
 }
@@ -136,8 +127,8 @@ fn holds_together(tasks: u32, attributes: u32, state: [u32; 4], queued: u32) -> 
         && match attributes {
             0 | 4 => unowned && maximum >= 1 && count <= maximum,
             32 | 36 => unowned && maximum == 1 && count <= 1,
-            16 | 20 if count == 1 => unowned && maximum == 1,
-            16 | 20 => {
+            16 | 20 | 84 if count == 1 => unowned && maximum == 1,
+            16 | 20 | 84 => {
                 let owner_is_task = owner >= 1 && owner <= tasks;
                 let held = count == 0 && owner_is_task && nest >= 1;
                 held && queued & (1 << (owner - 1)) == 0 && maximum == 1

@@ -1,5 +1,6 @@
 //! The sentences of document 02, No. 5, and what No. 6 says of these calls, as cases that run on any facade.
 
+mod inheritance;
 mod refusals;
 
 use std::fmt::Debug;
@@ -366,7 +367,7 @@ const CASES: [Named; 17] = [
 /// Runs every case; how many calls were made, or the first answer that is not the paper's.
 pub fn run(subject: &mut dyn Itron) -> Result<u64, String> {
     let mut done = 0;
-    for (name, run_case) in CASES.into_iter().chain(refusals::CASES) {
+    for (name, run_case) in CASES.into_iter().chain(refusals::CASES).chain(inheritance::CASES) {
         let mut case = Case { subject, lent: Lending::blank(0), done: 0, failed: None };
         run_case(&mut case);
         if let Some(failure) = case.failed {

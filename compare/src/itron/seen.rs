@@ -25,7 +25,7 @@ const CODES: [&[i32]; SERVICES.len()] = [
 const TURNED: [i32; 6] = [E_OK, WAITING_CODE, E_TMOUT, E_DLT, E_RLWAI, E_SYS];
 
 /// Happenings besides the codes that a run has to have seen.
-const HAPPENINGS: [&str; 35] = [
+const HAPPENINGS: [&str; 38] = [
     "cre_sem in a slot that was used before",
     "cre_sem gave generation 65535",
     "cre_sem with TA_TPRI",
@@ -36,6 +36,9 @@ const HAPPENINGS: [&str; 35] = [
     "del_sem of generation 65535",
     "sig_sem by an interrupt woke a task",
     "sig_sem woke the first of two",
+    "sig_sem woke one that is not first in its queue",
+    "sig_sem woke one that is first by inheritance alone",
+    "del_sem woke in another order than arrival",
     "sig_sem refused at maximum 2147483647",
     "sig_sem refused at maximum 1",
     "sig_sem refused at a maximum between",
@@ -191,11 +194,16 @@ impl Seen {
         match *service {
             Service::DelSem { semid, .. } => {
                 self.happened("del_sem woke waiters", done && waiting > 0);
+                let other = machine.in_turn(id) != live.queue;
+                self.happened("del_sem woke in another order than arrival", done && other);
                 let other = live.name != semid;
                 self.happened("del_sem of a semaphore that Classic create made", done && other);
                 self.happened("del_sem of generation 65535", done && id >> 16 == LAST_GENERATION);
             }
-            Service::SigSem { .. } => self.saw_signal(live, caller, code),
+            Service::SigSem { .. } => {
+                self.saw_signal(live, caller, code);
+                self.saw_served(machine, id, done);
+            }
             Service::WaiSem { .. } => {
                 let last = machine.ready.len() == 1;
                 self.happened("wai_sem made the last ready task wait", code == WAITING_CODE && last);
@@ -219,6 +227,15 @@ impl Seen {
         self.happened("sig_sem refused at maximum 1", refused && live.maximum == 1);
         let between = (2..MOST_MAPPED).contains(&live.maximum);
         self.happened("sig_sem refused at a maximum between", refused && between);
+    }
+
+    fn saw_served(&mut self, machine: &Machine, id: u32, done: bool) {
+        let first = |priorities: &[u32]| machine.in_turn_by(id, priorities).first().copied();
+        let (equals, own) = (vec![1; machine.tasks.len()], machine.working_with(0));
+        let served = first(&machine.working());
+        let (late, lent) = (served != first(&equals), served != first(&own));
+        self.happened("sig_sem woke one that is not first in its queue", done && late);
+        self.happened("sig_sem woke one that is first by inheritance alone", done && lent);
     }
 
     fn saw_timed(&mut self, tmout: i32, code: i32) {

@@ -1,6 +1,6 @@
 //! When tables agree, beyond what their layout already says.
 
-use crate::model::{identifier, Class, Machine, Order, Semaphore, State, Task};
+use crate::model::{identifier, Class, Machine, Semaphore, State, Task};
 use crate::status::*;
 
 impl Machine {
@@ -18,7 +18,7 @@ impl Machine {
     }
 
     /// Each live semaphore with its identifier.
-    fn live_slots(&self) -> impl Iterator<Item = (u32, &Semaphore)> {
+    pub fn live_slots(&self) -> impl Iterator<Item = (u32, &Semaphore)> {
         let numbered = self.slots.iter().enumerate();
         numbered
             .filter_map(|(index, slot)| Some((identifier(slot.generation, index), slot.live.as_ref()?)))
@@ -32,13 +32,7 @@ impl Machine {
             && (semaphore.queue.is_empty() || semaphore.count == 0)
             && semaphore.class.allows(semaphore.maximum)
             && semaphore.count <= semaphore.maximum
-            && self.is_in_order(semaphore)
             && self.holds_together(semaphore)
-    }
-
-    fn is_in_order(&self, semaphore: &Semaphore) -> bool {
-        let urgency = |task: &u32| self.tasks[*task as usize - 1].priority;
-        semaphore.order == Order::Fifo || semaphore.queue.is_sorted_by_key(urgency)
     }
 
     fn holds_together(&self, semaphore: &Semaphore) -> bool {

@@ -1,5 +1,7 @@
 //! What has occurred in random runs, and what has to.
 
+mod inheritance;
+
 use std::collections::BTreeMap;
 
 use crate::fuzz::coverage::{next_passes_a_lower_equal, Waits};
@@ -155,6 +157,7 @@ impl Coverage {
             _ => {}
         }
         self.waits_ended(input, event, before, after);
+        self.saw_inheritance(input, before, after);
         let Some((call, answer)) = made else { return };
         let ended = self.waits.saw(call, *answer, &after.machine);
         let scripted = |task: u32| input.scripts.iter().any(|script| script.task == task);
@@ -322,7 +325,7 @@ impl Coverage {
     }
 
     fn wanted() -> impl Iterator<Item = String> {
-        let happenings = HAPPENINGS.iter().map(|name| name.to_string());
+        let happenings = HAPPENINGS.into_iter().chain(inheritance::wanted()).map(str::to_string);
         // A file's tables come from calls and always agree, so 25 cannot be had by text.
         let by_text = REFUSALS.iter().filter(|refusal| refusal.status != INTERNAL_ERROR);
         let refusals = by_text.map(|refusal| refusal_name(refusal.status, refusal.name));

@@ -105,10 +105,11 @@ fn draw_setup(rng: &mut Rng) -> Vec<Call> {
             let id = identifier(1, name as usize - 1);
             calls.extend([Call::create(1, 9, 1, 0), Call::Delete { caller: 1, id }]);
         }
-        calls.push(Call::create(rng.between(1, tasks), name, 1, rng.pick(&[16, 20])));
+        calls.push(Call::create(rng.between(1, tasks), name, 1, rng.pick(&[16, 20, 84, 84])));
     }
     if other {
-        let (count, attributes) = rng.pick(&[(0, 16), (0, 20), (1, 32), (0, 36), (2, 0), (1, 4)]);
+        let kinds = [(0, 16), (0, 20), (1, 32), (0, 36), (2, 0), (1, 4), (0, 84), (0, 84)];
+        let (count, attributes) = rng.pick(&kinds);
         calls.push(Call::create(tasks, 4, count, attributes));
     }
     if waits {
@@ -122,7 +123,7 @@ fn draw_setup(rng: &mut Rng) -> Vec<Call> {
 
 /// The identifiers that a section may have.
 pub fn usable_ids(machine: &Machine) -> Vec<u32> {
-    let fits = |live: &Semaphore| [16, 20].contains(&live.attributes()) && live.owner == 0;
+    let fits = |live: &Semaphore| GUARDS.contains(&live.attributes()) && live.owner == 0;
     let slots = machine.slots.iter().enumerate();
     let usable = slots.filter(|(_, slot)| slot.live.as_ref().is_some_and(fits));
     usable.map(|(index, slot)| identifier(slot.generation, index)).collect()
@@ -259,7 +260,8 @@ fn draw_event(
         4 => Call::Flush { caller: rng.pick(&[0, caller]), id },
         5 => Call::Delete { caller, id },
         6 => {
-            let (count, attributes) = rng.pick(&[(2, 0), (1, 16), (1, 20), (0, 16), (1, 32), (2, 4)]);
+            let kinds = [(2, 0), (1, 16), (1, 20), (0, 16), (1, 32), (2, 4), (1, 84), (0, 84), (1, 80)];
+            let (count, attributes) = rng.pick(&kinds);
             let greatest = greatest_maximum(attributes);
             let maximum = rng.pick(&[greatest, greatest, greatest, 0, 1, 2, 12]);
             Call::Create { caller, name: rng.between(0, 4), count, attributes, maximum }

@@ -115,7 +115,7 @@ fn semaphore_not_live(input: &Input) -> bool {
 }
 
 fn semaphore_not_binary(input: &Input) -> bool {
-    let other = |live: &Semaphore| ![BINARY, BINARY + PRIORITY].contains(&live.attributes());
+    let other = |live: &Semaphore| !GUARDS.contains(&live.attributes());
     sections(input).any(|section| input.machine.semaphore(section.id).is_some_and(other))
 }
 

@@ -59,7 +59,7 @@ fn spoil_once(rng: &mut Rng, input: &mut Input) {
             Some(rng.pick(&[0, 65536, 65537 + 63, u32::MAX, any, id]))
         }),
         10 => rename_section(rng, input, |_, machine| {
-            find(machine, |live| ![16, 20].contains(&live.attributes()))
+            find(machine, |live| !GUARDS.contains(&live.attributes()))
         }),
         11 => rename_section(rng, input, |_, machine| find(machine, |live| live.owner != 0)),
         12 => {

@@ -196,8 +196,8 @@ fn slot(numbers: &[u32; SLOT_NUMBERS], queue: Vec<u32>) -> Result<Slot, Fault> {
     let live = match live {
         0 => None,
         1 => {
-            let (class, order) = split_attributes(attributes).ok_or(Fault::Attributes)?;
-            Some(Semaphore { name, class, order, count, owner, nest, maximum, queue })
+            let (class, order, protocol) = split_attributes(attributes).ok_or(Fault::Attributes)?;
+            Some(Semaphore { name, class, order, protocol, count, owner, nest, maximum, queue })
         }
         _ => return Err(Fault::Live),
     };

@@ -3,6 +3,7 @@
 use std::collections::BTreeMap;
 
 use crate::call::Answer;
+use crate::fuzz::coverage::has_queue_against_priorities;
 use crate::history;
 use crate::model::{Class, Machine, State, Task};
 use crate::state::read::{only_maxima_are_wrong, Fault};
@@ -74,7 +75,7 @@ const LOADS: [(&str, &[u32]); 18] = [
 ];
 
 /// Tables that have to be among those saved, and what has to follow a load.
-const HAPPENINGS: [&str; 24] = [
+const HAPPENINGS: [&str; 30] = [
     "saved: the longest file",
     "saved: no task ready",
     "saved: no task waiting",
@@ -99,6 +100,12 @@ const HAPPENINGS: [&str; 24] = [
     "loaded: edition 1 with a wait for ever",
     "loaded: edition 1 with a wait of the standard limit",
     "loaded: edition 1 with a wait of 4294967295 ticks",
+    "loaded: edition 2 with a semaphore that lends",
+    "loaded: edition 2 with a PRIORITY queue against its priorities",
+    "loaded: edition 2, next being another by inheritance",
+    "loaded: edition 1 with a semaphore that lends",
+    "loaded: edition 1 with a PRIORITY queue against its priorities",
+    "loaded: edition 1, next being another by inheritance",
 ];
 
 type Counts<Key> = BTreeMap<Key, u64>;
@@ -175,6 +182,7 @@ impl Seen {
         let mut live = machine.slots.iter().filter_map(|slot| slot.live.as_ref());
         self.happened(HAPPENINGS[16], live.any(|live| (2..u32::MAX).contains(&live.maximum)));
         self.drew_waits(18, machine);
+        self.drew_priorities(24, machine);
     }
 
     /// Counts what waits are in the tables, by the happenings from this one on.
@@ -184,6 +192,14 @@ impl Seen {
                 |task: &Task| matches!(task.state, State::Waiting { ticks, .. } if ticks == wanted);
             self.happened(HAPPENINGS[place], machine.tasks.iter().any(waits));
         }
+    }
+
+    /// Counts what goes by working priorities in the tables, by the happenings from this one on.
+    fn drew_priorities(&mut self, first: usize, machine: &Machine) {
+        self.happened(HAPPENINGS[first], machine.lenders().next().is_some());
+        self.happened(HAPPENINGS[first + 1], has_queue_against_priorities(machine));
+        let by_own = machine.next_by(&machine.working_with(0));
+        self.happened(HAPPENINGS[first + 2], machine.next_task() != by_own);
     }
 
     /// Counts what a round's tables are like that are loaded from edition 1.
@@ -197,6 +213,7 @@ impl Seen {
         self.happened(HAPPENINGS[14], of(Class::SimpleBinary));
         self.happened(HAPPENINGS[15], machine.slots.iter().any(|slot| slot.live.is_none()));
         self.drew_waits(21, machine);
+        self.drew_priorities(27, machine);
     }
 
     /// What has to occur and did not.

@@ -26,6 +26,7 @@ pub fn random_parts(subject: &mut dyn Manager) -> Result<(), Box<Difference>> {
     let mut comparison = Comparison::new(subject);
     (0..50).try_for_each(|seed| {
         let machine = sequence::run(&mut comparison, seed)?;
+        sequence::run_chains(&mut comparison, seed)?;
         damage::at_random(&mut comparison, seed, &machine)
     })
 }

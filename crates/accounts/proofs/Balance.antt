@@ -16,8 +16,8 @@ use Rattle.rules.specs.declared.Task.{Task}
 use Rattle.rules.specs.declared.Call.{Call}
 use Rattle.rules.specs.declared.Call.the-variants.{Start, Create, Ident, Delete, Flush, Tick}
 use Rattle.rules.specs.Numbers.{maxTasks, isBinary}
-use Rattle.rules.specs.Machine.{Slot, Tables, noTask, freeSlot, slotOf, putSlot, waits, isLive, names, slotNamed}
-use Rattle.rules.specs.Semaphore.{flushStep}
+use Rattle.rules.specs.Machine.{Slot, Tables, noTask, freeSlot, slotOf, putSlot, waits, isLive, names, slotNamed, urgency}
+use Rattle.rules.specs.Semaphore.{servingOrder, flushStep}
 use Rattle.rules.specs.Calls.{Outcome, answered, refused, unless, wakeAll, startRefusal, start, createRefusal, newSemaphore, openSlot, create, firstNamed, ident}
 use Rattle.rules.specs.Calls.{deleteRefusal, delete, flushRefusal, flush, expires, ticked}
 use Rattle.rules.specs.Calls.{tickedSlot, tick}
@@ -176,12 +176,12 @@ module _ (t : Tables) (f : Facts t) (id : ℕ) (named : names t id ≡ true) (un
       freed = putSlot t m (freeSlot (slotOf t m .generation))
 
       u : Tables
-      u = wakeAll freed (slotOf t m .queue) 7
+      u = wakeAll freed (servingOrder (urgency t) (slotOf t m)) 7
 
       same : isLive (slotOf u (id % 65536)) ≡ true → countIn u ≡ countIn t
       same =
           subst (λ (ss : List Slot). isLive (getD ss (placeOf id) (freeSlot 0)) ≡ true → getD ss (placeOf id) (freeSlot 0) .count ≡ countIn t)
-          (sym (wakeAll-slots (slotOf t m .queue) freed 7))
+          (sym (wakeAll-slots (servingOrder (urgency t) (slotOf t m)) freed 7))
           (set-cases (λ (s : Slot). isLive s ≡ true → s .count ≡ countIn t) (t .slots) (pred m) (placeOf id) _ (freeSlot 0) (λ e l. never l refl) (λ l. refl))
 
   pub flush-right : (caller other : ℕ) → Right (Flush caller other) (flush t caller other)
@@ -196,9 +196,9 @@ module _ (t : Tables) (f : Facts t) (id : ℕ) (named : names t id ≡ true) (un
       flushed : Tables
       flushed = putSlot t m (flushStep (slotOf t m))
 
-      same : countIn (wakeAll flushed (slotOf t m .queue) 13) ≡ countIn t
+      same : countIn (wakeAll flushed (servingOrder (urgency t) (slotOf t m)) 13) ≡ countIn t
       same =
-          subst (λ (ss : List Slot). getD ss (placeOf id) (freeSlot 0) .count ≡ countIn t) (sym (wakeAll-slots (slotOf t m .queue) flushed 13))
+          subst (λ (ss : List Slot). getD ss (placeOf id) (freeSlot 0) .count ≡ countIn t) (sym (wakeAll-slots (servingOrder (urgency t) (slotOf t m)) flushed 13))
           (set-cases (λ (s : Slot). s .count ≡ countIn t) (t .slots) (pred m) (placeOf id) _ (freeSlot 0)
           (λ e. ap (λ (k : ℕ). getD (t .slots) k (freeSlot 0) .count) (sym e)) refl)
 

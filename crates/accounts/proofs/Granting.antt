@@ -19,11 +19,11 @@ use Rattle.rules.specs.declared.Call.{Call}
 use Rattle.rules.specs.declared.Call.the-variants.{Start, Create, Ident, Delete, Obtain, Release, Flush, Tick}
 use Rattle.rules.specs.Numbers.{maxTasks, isBinary}
 use Rattle.rules.specs.Machine.{Slot, Tables, noTask, taskOf, slotOf, putSlot, waits, names, slotNamed, urgency}
-use Rattle.rules.specs.Semaphore as semaphores
-use Rattle.rules.specs.Semaphore.{Taken, takeStep, Given, giveStep}
-use Rattle.rules.specs.Calls.{Outcome, answered, readied, wake, beginWait, blocked, obtainRefusal, obtain, releaseRefusal, release, perform}
+use Rattle.rules.specs.Semaphore.{servedPlace, Taken, takeStep, Given}
+use Rattle.rules.specs.Calls.{Outcome, answered, readied, wake, beginWait, blocked, obtainRefusal, obtain, giveOf, releaseRefusal, release, perform}
 use Rattle.rules.proofs.Accounting.{take-accounts, give-accounts, give-serves, give-alone}
-use Rattle.rules.proofs.Sequence.{wakes-first}
+use Rattle.rules.proofs.Sequence.{wakes-served}
+use Rattle.rules.proofs.Serving.{served-within}
 use Rattle.rules.proofs.Invariants.Lists.{bit-yes, bit-no}
 use Rattle.rules.proofs.Invariants.Agreeing.{sizes-within}
 use Rattle.rules.proofs.Invariants.Facts.{nthTask, Facts, waits-within}
@@ -41,10 +41,10 @@ and-true : (a b : Bool) → b ≡ true → (a and b) ≡ a
 and-true a b y = choose-cases (λ (z : Bool). z ≡ a) a b false (λ e. y ∙ sym e) (λ e. sym e)
 
 -- an obtain's step is done, refuses with 13, or begins a wait
-take-status : (s : Slot) (caller place : ℕ) (wait : Wait) → let status = takeStep s caller place wait .status in
+take-status : (s : Slot) (caller : ℕ) (wait : Wait) → let status = takeStep s caller wait .status in
     eqb status 13 ≡ false → eqb status 100 ≡ false → status ≡ 0
 unfolding takeStep
-take-status s caller place wait =
+take-status s caller wait =
     choose-cases P _ _ _ (λ e a b. refl)
     (λ e. choose-cases P _ _ _ (λ e. choose-cases P _ _ _ (λ e a b. never refl a) (λ e a b. refl))
     (λ e. choose-cases P _ _ _ (λ e a b. never refl a) (λ e a b. never refl b)))
@@ -66,7 +66,7 @@ module _ (t : Tables) (f : Facts t) (id : ℕ) (named : names t id ≡ true) (un
   -- ---- obtain
 
   abbrev takenOf : ℕ → Wait → ℕ → Taken
-  takenOf caller wait m = takeStep (slotOf t m) caller (semaphores.placeOf (urgency t) (slotOf t m) caller) wait
+  takenOf caller wait m = takeStep (slotOf t m) caller wait
 
   -- one less in the count of the semaphore obtained, if that is done
   taken-count : (caller : ℕ) (wait : Wait) (other : ℕ) → names t other ≡ true → let taken = takenOf caller wait (other % 65536) in
@@ -92,7 +92,7 @@ module _ (t : Tables) (f : Facts t) (id : ℕ) (named : names t id ≡ true) (un
             arith,
             ap (λ (s : Slot). s .count) (put-here t id named id n (takenOf caller wait (id % 65536) .slot) refl),
             ap {B = ℕ} (λ (b : Bool). bit b) (if-yes (eqb (takenOf caller wait (id % 65536) .status) 0) false (eq-eqb id id refl)),
-            take-accounts (slotOf t (id % 65536)) unowned caller (semaphores.placeOf (urgency t) (slotOf t (id % 65536)) caller) wait,
+            take-accounts (slotOf t (id % 65536)) unowned caller wait,
           )
 
   -- the caller waits now, on the identifier that it obtains
@@ -156,7 +156,7 @@ module _ (t : Tables) (f : Facts t) (id : ℕ) (named : names t id ≡ true) (un
           (λ e. record {
             balance = λ n. omega (
               arith,
-              counts 0 (take-status (slotOf t m) caller _ wait served e),
+              counts 0 (take-status (slotOf t m) caller wait served e),
               ungranted t f id named unowned on known (held m) (λ i. waits-not (nthTask t i)),
               bit-no (false and eqb 0 0) (if-no _ _ refl),
             );
@@ -173,7 +173,7 @@ module _ (t : Tables) (f : Facts t) (id : ℕ) (named : names t id ≡ true) (un
   -- ---- release
 
   abbrev givenOf : ℕ → ℕ → Given
-  givenOf caller m = giveStep (slotOf t m) caller
+  givenOf caller m = giveOf t (slotOf t m) caller
 
   abbrev held : ℕ → ℕ → Tables
   held caller m = putSlot t m (givenOf caller m .slot)
@@ -194,29 +194,29 @@ module _ (t : Tables) (f : Facts t) (id : ℕ) (named : names t id ≡ true) (un
     woken = givenOf caller (other % 65536) .woken
 
     -- who is woken waited on the semaphore that is released
-    first-waits : woken ≢ 0 → Waits t other woken
-    first-waits some =
-        let w = wakes-first (slotOf t (other % 65536)) caller some in
-        subst (Waits t other) (sym (w .1)) (waiter-at t other there f 0 (omega (arith, w .0)))
+    served-waits : woken ≢ 0 → Waits t other woken
+    served-waits some =
+        let w = wakes-served (slotOf t (other % 65536)) caller _ some in
+        subst (Waits t other) (sym (w .1)) (waiter-at t other there f _ (served-within (urgency t) (slotOf t (other % 65536)) (w .0)))
 
     -- it alone is granted something
-    granted-first : (some : woken ≢ 0) → grantedBy (wake (held caller (other % 65536)) woken 0) ≡ bit (eqb other id)
-    granted-first some =
+    granted-served : (some : woken ≢ 0) → grantedBy (wake (held caller (other % 65536)) woken 0) ≡ bit (eqb other id)
+    granted-served some =
         granted-one (answerOf t) (answerOf u) id on woken maxTasks 1 (w .first)
         (omega (arith, waits-within t (pred woken) (w .waiting), w .first, sizes-within t (f .sizes) .tasks))
         (eqb-true _ 100 (w .waiting)) (ap (λ (v : Task). v .answer) (getD-set-same (t .tasks) (pred woken) _ noTask (waits-within t (pred woken) (w .waiting))))
         (λ x l b. set-cases (λ (v : Task). v .answer ≡ 0 → x ≡ woken) (t .tasks) (pred woken) (pred x) (readied (taskOf t woken) 0) noTask
         (λ e z. omega (arith, w .first)) (λ z. omega (arith, b)))
-        ∙ ap (λ (b : Bool). bit b) (on-first ∙ ap (λ (x : ℕ). eqb x id) (w .awaited))
+        ∙ ap (λ (b : Bool). bit b) (on-served ∙ ap (λ (x : ℕ). eqb x id) (w .awaited))
       where
         w : Waits t other woken
-        w = first-waits some
+        w = served-waits some
 
         u : Tables
         u = wake (held caller (other % 65536)) woken 0
 
-        on-first : eqb (on woken) id ≡ eqb (taskOf t woken .awaited) id
-        on-first = subst (λ (x : ℕ). eqb (on x) id ≡ eqb (taskOf t woken .awaited) id) (omega (arith, w .first)) (known (pred woken) (w .waiting))
+        on-served : eqb (on woken) id ≡ eqb (taskOf t woken .awaited) id
+        on-served = subst (λ (x : ℕ). eqb (on x) id ≡ eqb (taskOf t woken .awaited) id) (omega (arith, w .first)) (known (pred woken) (w .waiting))
 
     -- somebody waits exactly where somebody is woken
     granted-left : id ≡ other → grantedBy (left caller (other % 65536)) ≡ bit (leb 1 (length queue))
@@ -228,14 +228,14 @@ module _ (t : Tables) (f : Facts t) (id : ℕ) (named : names t id ≡ true) (un
         waited : leb 1 (length queue) ≡ true → grantedBy (left caller (other % 65536)) ≡ bit (leb 1 (length queue))
         waited y =
             let some : 1 ≤ length queue = leb-true 1 (length queue) y in
-            let first = give-serves (slotOf t (other % 65536)) free caller some .1 in
-            let w = waiter-at t other there f 0 some in
-            let is : woken ≢ 0 = λ (z : woken ≡ 0). omega (arith, first, w .first) in
-            ap grantedBy (if-no _ _ (ne-eqb woken 0 is)) ∙ granted-first is ∙ bit-yes _ (eq-eqb other id (sym e)) ∙ sym (bit-yes _ y)
+            let served = give-serves (slotOf t (other % 65536)) free caller (servedPlace (urgency t) (slotOf t (other % 65536))) some .1 in
+            let w = waiter-at t other there f _ (served-within (urgency t) (slotOf t (other % 65536)) some) in
+            let is : woken ≢ 0 = λ (z : woken ≡ 0). omega (arith, served, w .first) in
+            ap grantedBy (if-no _ _ (ne-eqb woken 0 is)) ∙ granted-served is ∙ bit-yes _ (eq-eqb other id (sym e)) ∙ sym (bit-yes _ y)
 
         alone : leb 1 (length queue) ≡ false → grantedBy (left caller (other % 65536)) ≡ bit (leb 1 (length queue))
         alone n =
-            let none = give-alone (slotOf t (other % 65536)) free caller (leb-false 1 (length queue) n) .0 in
+            let none = give-alone (slotOf t (other % 65536)) free caller _ (leb-false 1 (length queue) n) .0 in
             ap grantedBy (if-yes _ _ (eq-eqb woken 0 none)) ∙ ungranted t f id named unowned on known (held caller (other % 65536)) (λ i. waits-not (nthTask t i))
             ∙ sym (bit-no _ n)
 
@@ -243,7 +243,7 @@ module _ (t : Tables) (f : Facts t) (id : ℕ) (named : names t id ≡ true) (un
     granted-elsewhere d =
         choose-cases (λ (u : Tables). grantedBy u ≡ 0) (eqb woken 0) _ _
         (λ e. ungranted t f id named unowned on known (held caller (other % 65536)) (λ i. waits-not (nthTask t i)))
-        (λ e. granted-first (eqb-false woken 0 e) ∙ bit-no _ (ne-eqb other id d))
+        (λ e. granted-served (eqb-false woken 0 e) ∙ bit-no _ (ne-eqb other id d))
 
     given-balance : countIn (left caller (other % 65536)) + grantedBy (left caller (other % 65536)) ≡ countIn t + bit (eqb other id)
     given-balance =
@@ -256,7 +256,7 @@ module _ (t : Tables) (f : Facts t) (id : ℕ) (named : names t id ≡ true) (un
                 left-count caller (other % 65536),
                 ap (λ (s : Slot). s .count) (put-here t id named other there (givenOf caller (other % 65536) .slot) e),
                 granted-left (sym e),
-                give-accounts (slotOf t (other % 65536)) free caller,
+                give-accounts (slotOf t (other % 65536)) free caller (servedPlace (urgency t) (slotOf t (other % 65536))),
                 same,
                 bit-yes (eqb other id) (eq-eqb other id e),
                 bit-yes (eqb (givenOf caller (other % 65536) .status) 0) (eq-eqb _ 0 given),

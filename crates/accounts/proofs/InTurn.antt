@@ -1,7 +1,7 @@
 -- Over any run of calls: a waiter with k tasks ahead is granted at the latest by the (k + 1)th successful release, unless its wait ends otherwise first.
 use mathlib.Core.Path.{_≡_, refl, sym, subst, ap, _∙_}
 use mathlib.Core.Bool.{true, false}
-use mathlib.Core.List.{List, [], _∷_}
+use mathlib.Core.List.{List, [], _∷_, _++_}
 use mathlib.Core.Logic.{_⊎_, inl, inr, ⊎-elim}
 use Prim.Native.Nat.{ℕ, suc, pred, _+_, _%_, _≤_, _<_}
 use native.Mathlib.Omega.{arith}
@@ -15,9 +15,9 @@ use Rattle.rules.specs.Numbers.{byPriority, isBinary}
 use Rattle.rules.specs.declared.Task.{Task}
 use Rattle.rules.specs.declared.Wait.{Wait}
 use Rattle.rules.specs.declared.Call.the-variants.{Obtain}
-use Rattle.rules.specs.Machine.{Slot, Tables, noTask, taskOf, slotOf, putSlot, waits, names, urgency}
+use Rattle.rules.specs.Machine.{Slot, Tables, noTask, taskOf, slotOf, putSlot, waits, names}
 use Rattle.rules.specs.Agreement.{Agrees}
-use Rattle.rules.specs.Semaphore.{placeOf, insertAt, Taken, takeStep}
+use Rattle.rules.specs.Semaphore.{Taken, takeStep}
 use Rattle.rules.specs.Calls.{Outcome, answered, beginWait, blocked, obtainRefusal, obtain, perform, step}
 use Rattle.rules.specs.Runs.{Request, stepOf}
 use Rattle.rules.specs.Fits.{callFits, callsFit}
@@ -141,10 +141,10 @@ module _ (t : Tables) (q id : ℕ) (wait : Wait) (priorities : List ℕ) (unowne
   record Joins (u : Tables) : Type 0 where
     named : names t id ≡ true
     waits′ : Waits u id q
-    rear : slotOf u (id % 65536) .queue ≡ insertAt (length queue) q queue
+    rear : slotOf u (id % 65536) .queue ≡ queue ++ q ∷ []
 
   abbrev takenOf : ℕ → Taken
-  takenOf m = takeStep (slotOf t m) q (placeOf (urgency t) (slotOf t m) q) wait
+  takenOf m = takeStep (slotOf t m) q wait
 
   abbrev waiting : ℕ → Tables
   waiting m = beginWait (putSlot t m (takenOf m .slot)) q (blocked (taskOf t q) id wait)
@@ -156,7 +156,6 @@ module _ (t : Tables) (q id : ℕ) (wait : Wait) (priorities : List ℕ) (unowne
   joins who there w =
       let inside : pred q < length (t .tasks) = omega (arith, who .first, who .last) in
       let is = getD-set-same (t .tasks) (pred q) (blocked (taskOf t q) id wait) noTask inside in
-      let at : placeOf (urgency t) (slotOf t (id % 65536)) q ≡ length queue = unfold placeOf in if-no _ _ fifo in
       record {
         named = there;
         waits′ = record {
@@ -166,9 +165,8 @@ module _ (t : Tables) (q id : ℕ) (wait : Wait) (priorities : List ℕ) (unowne
         };
         rear =
             ap (λ (s : Slot). s .queue) (put-here t id there id there (takenOf (id % 65536) .slot) refl)
-            ∙ take-queue (slotOf t (id % 65536)) unowned q (placeOf (urgency t) (slotOf t (id % 65536)) q) wait
-            ∙ if-yes _ _ w
-            ∙ ap (λ (n : ℕ). insertAt n q queue) at;
+            ∙ take-queue (slotOf t (id % 65536)) unowned q wait
+            ∙ if-yes _ _ w;
       }
 
   obtain-joins : Begins (obtain t q id wait)

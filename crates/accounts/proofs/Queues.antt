@@ -1,14 +1,13 @@
 -- The place of a task in a queue: after a tick, after another has joined at the rear, and after the first has left.
 use mathlib.Core.Path.{_≡_, refl, sym, subst}
 use mathlib.Core.Bool.{false}
-use mathlib.Core.List.{List, [], _∷_}
+use mathlib.Core.List.{List, [], _∷_, _++_}
 use Prim.Native.Nat.{ℕ, zero, suc, pred, _≤_, _<_}
 use native.Mathlib.Omega.{arith}
 use native.Mathlib.Nat.{not-suc-le-zero}
 use lib.ListN.{length, getD, drop}
 use Rattle.laws.proofs.Choose.{if-no, choose-cases}
 use Rattle.rules.specs.Machine.{Tables, taskOf}
-use Rattle.rules.specs.Semaphore.{insertAt}
 use Rattle.rules.specs.Calls.{expires, stillWaiting}
 
 -- task q stands in the queue, with at most k ahead
@@ -33,14 +32,14 @@ stands-still t (x ∷ xs) (suc k) q h e n =
 
 -- who joins at the rear is ahead of nobody
 pub rear-others : (c : ℕ) (qs : List ℕ) (k : ℕ) → k < length qs
-    → (k < length (insertAt (length qs) c qs)) × (getD (insertAt (length qs) c qs) k 0 ≡ getD qs k 0)
+    → (k < length (qs ++ c ∷ [])) × (getD (qs ++ c ∷ []) k 0 ≡ getD qs k 0)
 rear-others c [] k h = absurd (not-suc-le-zero h)
 rear-others c (x ∷ xs) zero h = (omega arith, refl)
 rear-others c (x ∷ xs) (suc k) h = let r = rear-others c xs k (omega arith) in (omega (arith, r .0), r .1)
 
 -- and has all ahead
 pub rear-last : (c : ℕ) (qs : List ℕ)
-    → (length qs < length (insertAt (length qs) c qs)) × (getD (insertAt (length qs) c qs) (length qs) 0 ≡ c)
+    → (length qs < length (qs ++ c ∷ [])) × (getD (qs ++ c ∷ []) (length qs) 0 ≡ c)
 rear-last c [] = (omega arith, refl)
 rear-last c (x ∷ xs) = let r = rear-last c xs in (omega (arith, r .0), r .1)
 

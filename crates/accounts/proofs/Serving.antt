@@ -21,14 +21,14 @@ use Rattle.rules.specs.declared.Call.the-variants.{Start, Create, Ident, Delete
 use Rattle.rules.specs.Numbers.{maxTasks, byPriority, isBinary}
 use Rattle.rules.specs.Machine.{Slot, Tables, noTask, freeSlot, taskOf, slotOf, putSlot, waits, isLive, names, slotNamed, urgency}
 use Rattle.rules.specs.Agreement.{occurs}
-use Rattle.rules.specs.Semaphore as semaphores
-use Rattle.rules.specs.Semaphore.{insertAt, Taken, takeStep, Given, giveStep, flushStep}
+use Rattle.rules.specs.Semaphore.{servingOrder, Taken, takeStep, Given, giveStep, flushStep}
 use Rattle.rules.specs.Calls.{Outcome, answered, refused, unless, wake, wakeAll, startRefusal, start, createRefusal, openSlot, create, firstNamed, ident}
-use Rattle.rules.specs.Calls.{deleteRefusal, delete, beginWait, blocked, obtainRefusal, obtain, releaseRefusal, release, flushRefusal, flush}
+use Rattle.rules.specs.Calls.{deleteRefusal, delete, beginWait, blocked, obtainRefusal, obtain, giveOf, releaseRefusal, release, flushRefusal, flush}
 use Rattle.rules.specs.Calls.{expires, ticked, tickedSlot, tick, perform}
 use Rattle.rules.specs.Runs.{Request}
 use Rattle.rules.proofs.Accounting.{take-queue, give-serves}
-use Rattle.rules.proofs.Sequence.{wakes-first}
+use Rattle.rules.proofs.Sequence.{wakes-served}
+use Rattle.rules.proofs.Serving.{served-within, served-first, serving-occurs}
 use Rattle.rules.proofs.Invariants.Lists.{bit-most, bit-no, occurs-at, getD-map}
 use Rattle.rules.proofs.Invariants.Agreeing.{sizes-within}
 use Rattle.rules.proofs.Invariants.Facts.{nthTask, Facts, waits-within}
@@ -137,24 +137,27 @@ module _ (t : Tables) (f : Facts t) (id : ℕ) (named : names t id ≡ true) (un
 
   module _ (other : ℕ) (there : names t other ≡ true) (s : Slot) (a : ℕ) where
     abbrev others : List ℕ
-    others = slotOf t (other % 65536) .queue
+    others = servingOrder (urgency t) (slotOf t (other % 65536))
+
+    queued : (x : ℕ) → occurs x others ≡ occurs x (slotOf t (other % 65536) .queue)
+    queued = serving-occurs (urgency t) (slotOf t (other % 65536))
 
     abbrev emptied : Tables
     emptied = wakeAll (putSlot t (other % 65536) s) others a
 
     task-after : nthTask emptied (pred q) ≡ wokenOf others a (pred q) (nthTask t (pred q))
     task-after =
-        wakeAll-task others (putSlot t (other % 65536) s) a (pred q) (f .slots (placeOf other) .whenLive (names-named t other there .lives) .entries)
-        (λ i h. waits-within t i (waiter t other there f (suc i) h .waiting))
+        wakeAll-task others (putSlot t (other % 65536) s) a (pred q) (queued 0 ∙ f .slots (placeOf other) .whenLive (names-named t other there .lives) .entries)
+        (λ i h. waits-within t i (waiter t other there f (suc i) (rw (queued (suc i)) at h) .waiting))
 
     number : suc (pred q) ≡ q
     number = omega (arith, waiting .first)
 
     woken-own : other ≡ id → answerOf emptied q ≡ a
     woken-own e =
-        let in-queue : 1 ≤ occurs (suc (pred q)) others =
-        subst (λ (x : ℕ). 1 ≤ occurs (suc (pred q)) (slotOf t (x % 65536) .queue)) (sym e)
-        (subst (λ (x : ℕ). 1 ≤ occurs x (queueIn t)) (sym number) (occurs-at (queueIn t) k inside)) in
+        let in-queue : 1 ≤ occurs (suc (pred q)) others = rw (queued (suc (pred q)))
+        (subst (λ (x : ℕ). 1 ≤ occurs (suc (pred q)) (slotOf t (x % 65536) .queue)) (sym e)
+        (subst (λ (x : ℕ). 1 ≤ occurs x (queueIn t)) (sym number) (occurs-at (queueIn t) k inside))) in
         ap (λ (v : Task). v .answer) (task-after ∙ if-le 1 (occurs (suc (pred q)) others) _ _ in-queue)
 
     woken-elsewhere : other ≢ id → nthTask emptied (pred q) ≡ nthTask t (pred q)
@@ -162,7 +165,7 @@ module _ (t : Tables) (f : Facts t) (id : ℕ) (named : names t id ≡ true) (un
         task-after
         ∙ ⊎-elim
         (λ (y : leb 1 (occurs (suc (pred q)) others) ≡ true).
-        absurd (d (sym (waiter t other there f (suc (pred q)) (leb-true 1 _ y) .awaited) ∙ waiting .awaited)))
+        absurd (d (sym (waiter t other there f (suc (pred q)) (subst (λ (c : ℕ). 1 ≤ c) (queued (suc (pred q))) (leb-true 1 _ y)) .awaited) ∙ waiting .awaited)))
         (λ (n : leb 1 (occurs (suc (pred q)) others) ≡ false). if-no _ _ n) (tested (leb 1 (occurs (suc (pred q)) others)))
 
     queue-elsewhere : other ≢ id → queueIn emptied ≡ queueIn t
@@ -186,7 +189,7 @@ module _ (t : Tables) (f : Facts t) (id : ℕ) (named : names t id ≡ true) (un
       unless-fares r (Delete caller other) (deleteRefusal t caller other) _
       (λ e.
       let there = delete-passed t caller other e in
-      subst (λ (m : ℕ). Fares r (Delete caller other) (answered 0 0 (wakeAll (putSlot t m (freeSlot (slotOf t m .generation))) (slotOf t m .queue) 7)))
+      subst (λ (m : ℕ). Fares r (Delete caller other) (answered 0 0 (wakeAll (putSlot t m (freeSlot (slotOf t m .generation))) (servingOrder (urgency t) (slotOf t m)) 7)))
       (sym (named-at t other there))
       (emptied-fares other there (freeSlot (slotOf t (other % 65536) .generation)) 7 r (Delete caller other) refl
       (λ e z. byDelete caller (c ∙ ap (λ (x : ℕ). Delete caller x) e) refl z)))
@@ -197,7 +200,7 @@ module _ (t : Tables) (f : Facts t) (id : ℕ) (named : names t id ≡ true) (un
       unless-fares r (Flush caller other) (flushRefusal t caller other) _
       (λ e.
       let there = must (names t other) 0 4 (omega arith) (any-caller t caller _ e) .0 in
-      subst (λ (m : ℕ). Fares r (Flush caller other) (answered 0 0 (wakeAll (putSlot t m (flushStep (slotOf t m))) (slotOf t m .queue) 13)))
+      subst (λ (m : ℕ). Fares r (Flush caller other) (answered 0 0 (wakeAll (putSlot t m (flushStep (slotOf t m))) (servingOrder (urgency t) (slotOf t m)) 13)))
       (sym (named-at t other there))
       (emptied-fares other there (flushStep (slotOf t (other % 65536))) 13 r (Flush caller other) refl
       (λ e z. byFlush caller (c ∙ ap (λ (x : ℕ). Flush caller x) e) refl z)))
@@ -229,10 +232,7 @@ module _ (t : Tables) (f : Facts t) (id : ℕ) (named : names t id ≡ true) (un
 
   module _ (caller : ℕ) (wait : Wait) where
     abbrev takenOf : ℕ → Taken
-    takenOf m = takeStep (slotOf t m) caller (semaphores.placeOf (urgency t) (slotOf t m) caller) wait
-
-    at-the-rear : semaphores.placeOf (urgency t) (slotOf t (id % 65536)) caller ≡ length (queueIn t)
-    at-the-rear = unfold semaphores.placeOf in if-no _ _ fifo
+    takenOf m = takeStep (slotOf t m) caller wait
 
     -- q stands where it stood
     pub taken-stands : (other : ℕ) → names t other ≡ true
@@ -243,10 +243,9 @@ module _ (t : Tables) (f : Facts t) (id : ℕ) (named : names t id ≡ true) (un
               subst (λ (s : Slot). (k < length (s .queue)) × (getD (s .queue) k 0 ≡ q))
               (sym (put-here t id named other there (takenOf (other % 65536) .slot) e ∙ ap (λ (x : ℕ). takenOf (x % 65536) .slot) e))
               (subst (λ (qs : List ℕ). (k < length qs) × (getD qs k 0 ≡ q))
-              (sym (take-queue (slotOf t (id % 65536)) unowned caller (semaphores.placeOf (urgency t) (slotOf t (id % 65536)) caller) wait))
+              (sym (take-queue (slotOf t (id % 65536)) unowned caller wait))
               (choose-cases (λ (qs : List ℕ). (k < length qs) × (getD qs k 0 ≡ q)) (eqb (takenOf (id % 65536) .status) 100) _ _
-              (λ w. subst (λ (n : ℕ). (k < length (insertAt n caller (queueIn t))) × (getD (insertAt n caller (queueIn t)) k 0 ≡ q)) (sym at-the-rear)
-              (rear-others caller (queueIn t) k inside))
+              (λ w. rear-others caller (queueIn t) k inside)
               (λ w. (inside, refl))))
           | no d ↦
               subst (λ (s : Slot). (k < length (s .queue)) × (getD (s .queue) k 0 ≡ q))
@@ -296,7 +295,7 @@ module _ (t : Tables) (f : Facts t) (id : ℕ) (named : names t id ≡ true) (un
   -- ---- release: the first is served
 
   abbrev givenOf : ℕ → ℕ → Given
-  givenOf caller m = giveStep (slotOf t m) caller
+  givenOf caller m = giveOf t (slotOf t m) caller
 
   abbrev left : ℕ → ℕ → Tables
   left caller m =
@@ -319,8 +318,8 @@ module _ (t : Tables) (f : Facts t) (id : ℕ) (named : names t id ≡ true) (un
   other-release caller other there d =
       stays (Release caller other) (answered 0 0 (left caller (other % 65536))) (if-no _ _ (ne-eqb other id d))
       (not-woken caller (other % 65536) (λ some z.
-      let w = wakes-first (slotOf t (other % 65536)) caller some in
-      let on = subst (Waits t other) (sym (w .1)) (waiter-at t other there f 0 (omega (arith, w .0))) in
+      let w = wakes-served (slotOf t (other % 65536)) caller _ some in
+      let on = subst (Waits t other) (sym (w .1)) (waiter-at t other there f _ (served-within (urgency t) (slotOf t (other % 65536)) (w .0))) in
       d (sym (on .awaited) ∙ subst (λ (i : ℕ). nthTask t i .awaited ≡ id) z (waiting .awaited))))
       (left-queue caller (other % 65536) ∙ ap (λ (s : Slot). s .queue) (put-elsewhere t id named other there (givenOf caller (other % 65536) .slot) d))
 
@@ -333,7 +332,10 @@ module _ (t : Tables) (f : Facts t) (id : ℕ) (named : names t id ≡ true) (un
       woken = givenOf caller (id % 65536) .woken
 
       serves : (givenOf caller (id % 65536) .status ≡ 0) × (woken ≡ getD (queueIn t) 0 0) × (givenOf caller (id % 65536) .slot .queue ≡ drop 1 (queueIn t))
-      serves = give-serves (slotOf t (id % 65536)) unowned caller (omega (arith, inside))
+      serves =
+          subst (λ (place : ℕ). let given = giveStep (slotOf t (id % 65536)) caller place in
+          (given .status ≡ 0) × (given .woken ≡ getD (queueIn t) 0 0) × (given .slot .queue ≡ drop 1 (queueIn t)))
+          (sym (served-first (urgency t) (slotOf t (id % 65536)) fifo)) (give-serves (slotOf t (id % 65536)) unowned caller 0 (omega (arith, inside)))
 
       first : Waits t id woken
       first = subst (Waits t id) (sym (serves .1)) (waiter-at t id named f 0 (omega (arith, inside)))

@@ -9,14 +9,13 @@ use native.Mathlib.Nat.{not-suc-le-zero}
 use native.Mathlib.Decide.{decLt}
 use lib.Dec.{eqb}
 use lib.ListN.{length, getD}
-use borrow.Author.Tests.{leb-true, eqb-true, eqb-false, eq-eqb, ne-eqb, le-leb}
+use borrow.Author.Tests.{eqb-true, eqb-false, eq-eqb, ne-eqb}
 use Rattle.laws.specs.Choose.{isnt, bit}
-use Rattle.laws.proofs.Choose.{tested, never, if-yes, and-both, both-and, when-then, then-when, isnt-false, false-isnt}
-use Rattle.rules.specs.Numbers.{byPriority}
-use Rattle.rules.specs.Machine.{Slot, Tables, taskOf, urgency}
+use Rattle.laws.proofs.Choose.{tested, never, if-yes, and-both, both-and, isnt-false, false-isnt}
+use Rattle.rules.specs.Machine.{Slot, Tables}
 use Rattle.rules.specs.Agreement.{occurs, isWaiter, isReadyTask}
 use Rattle.rules.proofs.Invariants.Lists.{bit-yes, bit-no, bit-same, occurs-none, occurs-cons, occurs-at, occurs-not}
-use Rattle.agreement.specs.Tests.{seenAt, urgencyBefore, entryAgrees, placeAgrees}
+use Rattle.agreement.specs.Tests.{seenAt, entryAgrees, placeAgrees}
 use Rattle.agreement.proofs.Marks.{Place, seen-made, seen-from}
 
 -- ---- how often
@@ -105,7 +104,6 @@ module _ (seen : List Bool) (xs : List ℕ) where
 pub record EntryFits (t : Tables) (seen : List Bool) (id : ℕ) (s : Slot) (k : ℕ) : Type 0 where
   pub waiter : isWaiter t id (getD (s .queue) k 0) ≡ true
   pub apart : getD (s .queue) k 0 ≡ s .owner → ⊥
-  pub ordered : byPriority (s .attributes) ≡ true → urgencyBefore t (s .queue) k ≤ urgency t (getD (s .queue) k 0)
   pub fresh : getD (seenAt seen (s .queue) k) (pred (getD (s .queue) k 0)) false ≡ false
 
 module _ (t : Tables) (seen : List Bool) (id : ℕ) (s : Slot) (k : ℕ) where
@@ -115,12 +113,9 @@ module _ (t : Tables) (seen : List Bool) (id : ℕ) (s : Slot) (k : ℕ) where
       let number = and-both _ _ e in
       let task = and-both _ _ (number .0) in
       let mark = and-both _ _ (number .1) in
-      let turn = and-both _ _ (mark .0) in
-      let awaited = and-both _ _ (turn .1) in
       record {
-        waiter = both-and (task .0) (both-and (turn .0) (awaited .0));
+        waiter = both-and (task .0) (mark .0);
         apart = eqb-false _ _ (isnt-false _ (task .1));
-        ordered = λ b. leb-true _ _ (when-then _ _ (awaited .1) b);
         fresh = isnt-false _ (mark .1);
       }
 
@@ -128,9 +123,8 @@ module _ (t : Tables) (seen : List Bool) (id : ℕ) (s : Slot) (k : ℕ) where
   unfolding entryAgrees
   fits-entry f =
       let waiter = and-both _ _ (f .waiter) in
-      let turn = and-both _ _ (waiter .1) in
       both-and (both-and (waiter .0) (false-isnt _ (ne-eqb _ _ (f .apart))))
-      (both-and (both-and (turn .0) (both-and (turn .1) (then-when _ _ (λ b. le-leb _ _ (f .ordered b))))) (false-isnt _ (f .fresh)))
+      (both-and (waiter .1) (false-isnt _ (f .fresh)))
 
 -- ---- and of a place of the sequence
 

@@ -3,7 +3,7 @@ use mathlib.Core.Path.{_≡_, refl, ap, sym, subst, _∙_}
 use mathlib.Core.Bool.{Bool, true, false}
 use mathlib.Core.List.{List, []}
 use mathlib.Core.Logic.{⊎-elim}
-use Prim.Native.Nat.{ℕ, zero, suc, pred, _%_, _+_, _*_, _≤_, _<_}
+use Prim.Native.Nat.{ℕ, suc, pred, _%_, _+_, _*_, _≤_, _<_}
 use native.Mathlib.Omega.{arith}
 use lib.Dec.{leb, eqb}
 use lib.ListN.{length, getD}
@@ -12,8 +12,8 @@ use Rattle.laws.specs.Choose.{choose, _and_, _or_}
 use Rattle.laws.proofs.Choose.{tested, never, same-test, choose-cases, if-yes, if-no, and-both, both-and, or-either, or-first, or-second}
 use Rattle.laws.proofs.Choose.{when-then, then-when, isnt-false, false-isnt}
 use Rattle.laws.proofs.All.{all-at, all-of}
-use Rattle.rules.specs.Numbers.{maxNumber, byPriority, isBinary}
-use Rattle.rules.specs.Machine.{Slot, Tables, taskOf, slotOf, isTask, waits, isLive, idOf, urgency}
+use Rattle.rules.specs.Numbers.{maxNumber, isBinary}
+use Rattle.rules.specs.Machine.{Slot, Tables, taskOf, slotOf, isTask, waits, isLive, idOf}
 use Rattle.rules.specs.Semaphore.{requeued}
 use Rattle.rules.specs.Agreement.{Agrees, agrees, sizesFit, occurs, isWaiter, isReadyTask, isQueuedOnce, isBinaryRight, isClear, isEnding, answerFits}
 use Rattle.rules.proofs.Invariants.Lists.{bit-yes, bit-most, occurs-none, occurs-at}
@@ -22,7 +22,7 @@ use Rattle.rules.proofs.Invariants.Agreeing.{agrees-true, true-agrees, agrees-i
 use Rattle.rules.proofs.Invariants.Facts.{nthTask, nthSlot, waitsOn, Unheld, Held, Facts, live-within}
 use Rattle.rules.proofs.Invariants.FromTests.{agrees-facts}
 use Rattle.rules.proofs.Invariants.ToTests.{names-of}
-use Rattle.agreement.specs.Tests.{seenAt, urgencyBefore, seenBelow, entryAgrees, queueAgrees, classAgrees, headAgrees, slotAgrees, taskAgrees, slotsAgree}
+use Rattle.agreement.specs.Tests.{seenAt, seenBelow, entryAgrees, queueAgrees, classAgrees, headAgrees, slotAgrees, taskAgrees, slotsAgree}
 use Rattle.agreement.specs.Tests.{placeAgrees, sequenceAgrees, seenAll, tasksAgree}
 use Rattle.agreement.proofs.Marks.{queueOf, entryOf, Place, length-below, seen-kept, seen-made, seen-from, below-made, below-from}
 use Rattle.agreement.proofs.Classes.{class-owned, class-other, class-maximum, class-agrees}
@@ -109,7 +109,6 @@ module _ (t : Tables) (sizes : Sizes t) (seen : List Bool) (long : length seen �
         named = named .0;
         attributed = attributed .0;
         waiting = all-of _ _ (λ k h. entry l k h .waiter);
-        ordered = λ b. all-of _ _ (λ k h. le-leb _ _ (entry l (suc k) (omega arith) .ordered b));
         atZero = class .1;
         owned = λ b. owned-with (length (t .tasks)) (requeued s []) (s .queue) apart (class-owned (length (t .tasks)) s (class .0) b);
         unowned = class-other (length (t .tasks)) s (class .0);
@@ -262,11 +261,7 @@ module _ (t : Tables) (a : Agrees t) where
     entry-agrees : entryAgrees t (seenBelow t j) (idOf (suc j) (nthSlot t j)) (nthSlot t j) k ≡ true
     entry-agrees =
         fits-entry t (seenBelow t j) _ (nthSlot t j) k
-        (record { waiter = waiter j l k b; apart = apart j l k b; ordered = ordered k b; fresh = fresh })
-      where
-        ordered : (k : ℕ) → k < length (queueOf t j) → byPriority (nthSlot t j .attributes) ≡ true → urgencyBefore t (queueOf t j) k ≤ urgency t (entryOf t j k)
-        ordered zero b p = omega arith
-        ordered (suc k) b p = leb-true _ _ (all-at _ _ (items .slot j (live-within t j l) .whenLive l .ordered p) k (omega arith))
+        (record { waiter = waiter j l k b; apart = apart j l k b; fresh = fresh })
 
   slot-tested : (j : ℕ) → j < length (t .slots) → slotAgrees t (seenBelow t j) (suc j) (nthSlot t j) ≡ true
   unfolding slotAgrees headAgrees queueAgrees

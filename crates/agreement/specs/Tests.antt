@@ -10,8 +10,8 @@ use lib.ListN.{length, getD, set, replicate}
 use Rattle.laws.specs.Choose.{choose, _and_, isnt, when}
 use Rattle.laws.specs.All.{all}
 use Rattle.rules.specs.declared.Task.{Task}
-use Rattle.rules.specs.Numbers.{maxPriority, maxGeneration, within, allowed, byPriority, isBinary, isSimple}
-use Rattle.rules.specs.Machine.{Slot, Tables, taskOf, slotOf, waits, isLive, idOf, urgency}
+use Rattle.rules.specs.Numbers.{maxPriority, maxGeneration, within, allowed, isBinary, isSimple}
+use Rattle.rules.specs.Machine.{Slot, Tables, taskOf, slotOf, waits, isLive, idOf}
 use Rattle.rules.specs.Semaphore.{requeued}
 use Rattle.rules.specs.Agreement.{isEnding, isAtRest, isWaiter, isReadyTask, isNamedRight, isZeroWhereQueued, isBinaryRight, isClear}
 
@@ -27,23 +27,17 @@ unfoldable pub seenAt : List Bool → List ℕ → ℕ → List Bool
 seenAt seen queue zero = seen
 seenAt seen queue (suc k) = set (seenAt seen queue k) (pred (getD queue k 0)) true
 
--- the urgency of the task before place k, 0 before the first
-abbrev pub urgencyBefore : Tables → List ℕ → ℕ → ℕ
-urgencyBefore t queue zero = 0
-urgencyBefore t queue (suc k) = urgency t (getD queue k 0)
-
 -- a task of the N at place k, who is not the owner
 abbrev pub isApart : ℕ → ℕ → ℕ → Bool
 isApart N owner q = within 1 N q and isnt (eqb q owner)
 
--- it waits on the identifier, and is no more urgent than the one before it if that matters
-abbrev pub isInTurn : ℕ → Bool → ℕ → Task → Bool
-isInTurn id ordered before v = waits v and eqb (v .awaited) id and when ordered (leb before (v .priority))
+abbrev pub isWaitingOn : ℕ → Task → Bool
+isWaitingOn id v = waits v and eqb (v .awaited) id
 
 unfoldable pub entryAgrees : Tables → List Bool → ℕ → Slot → ℕ → Bool
 entryAgrees t seen id s k =
     isApart (length (t .tasks)) (s .owner) (getD (s .queue) k 0)
-    and isInTurn id (byPriority (s .attributes)) (urgencyBefore t (s .queue) k) (taskOf t (getD (s .queue) k 0))
+    and isWaitingOn id (taskOf t (getD (s .queue) k 0))
     and isnt (getD (seenAt seen (s .queue) k) (pred (getD (s .queue) k 0)) false)
 
 unfoldable pub queueAgrees : Tables → List Bool → ℕ → Slot → Bool

@@ -7,12 +7,11 @@ ghost use Prim.Native.Nat.{ℕ, suc, _+_, _*_, _≤_, _<_};
 ghost use lib.ListN.{length};
 ghost use Rattle.laws.specs.Choose.{_and_};
 ghost use Rattle.words.specs.Words.{wordAt};
-ghost use Rattle.rules.specs.Numbers.{byPriority};
 ghost use Rattle.rules.specs.Machine.{slotOf};
 ghost use Rattle.rules.specs.Agreement.{countsFit, isEnding, isAtRest, isZeroWhereQueued, isBinaryRight, isClear};
 ghost use Rattle.tables.specs.Layout.{headOf, slotWith, recordAt, modelOf};
 ghost use Rattle.tables.specs.Sizes.{Bounded};
-ghost use Rattle.agreement.specs.Tests.{isApart, isInTurn, QueueTested, otherAgrees, classAgrees, headAgrees, SlotTested, taskAgrees, seenBelow};
+ghost use Rattle.agreement.specs.Tests.{isApart, isWaitingOn, QueueTested, otherAgrees, classAgrees, headAgrees, SlotTested, taskAgrees, seenBelow};
 ghost use Rattle.agreement.specs.Tests.{SlotsTested, SequenceTested, seenAll, tasksAgree};
 ghost use Rattle.agreement.specs.Bytes.{agreesBytes};
 
@@ -144,20 +143,14 @@ fn is_apart(tasks: u32, owner: u32, q: u32) -> bool
     true
 }
 
-// Whether a task waits on the identifier, and with PRIORITY is no more urgent than the one before it.
-fn is_in_turn(id: u32, attributes: u32, before: u32, v: Task) -> bool
-    ensures { λ r. ⌜ r ≡ isInTurn id (byPriority attributes) before v ⌝ }
+// Whether a task waits on the identifier.
+fn is_waiting_on(id: u32, v: Task) -> bool
+    ensures { λ r. ⌜ r ≡ isWaitingOn id v ⌝ }
 {
     if v.answer != rules::WAITING {
         return false;
     }
-    if v.awaited != id {
-        return false;
-    }
-    if rules::is_by_priority(attributes) {
-        return before <= v.priority;
-    }
-    true
+    v.awaited == id
 }
 
 // The queue of slot i. Each of its tasks is marked, and none twice: a task waits on one semaphore only.
@@ -167,7 +160,6 @@ fn is_queue_agreeing(m: &[u8], i: usize, id: u32, s: Head, seen: &mut [bool; 32]
 {
     let tasks = tables::task_count(m);
     let waiters = s.waiters as usize;
-    let mut before: u32 = 0;
     let mut k = 0;
     while k < waiters {
         let q = tables::queue_entry(m, i, k);
@@ -176,14 +168,13 @@ fn is_queue_agreeing(m: &[u8], i: usize, id: u32, s: Head, seen: &mut [bool; 32]
         }
         let at = (q - 1) as usize;
         let v = tables::load_task(m, at);
-        if !is_in_turn(id, s.attributes, before, v) {
+        if !is_waiting_on(id, v) {
             return false;
         }
         if seen[at] {
             return false;
         }
         seen[at] = true;
-        before = v.priority;
         k += 1;
     }
     true

@@ -41,10 +41,11 @@ answer-few a e =
     either-few a 100 100 _ e (omega arith) (λ e. either-few a 0 100 _ e (omega arith) (λ e. either-few a 6 100 _ e (omega arith)
     (λ e. either-few a 7 100 _ e (omega arith) (λ e. omega (arith, eqb-true a 13 e)))))
 
-attributes-few : (a : ℕ) → allowed a ≡ true → a ≤ 36
+attributes-few : (a : ℕ) → allowed a ≡ true → a ≤ 84
 attributes-few a e =
-    either-few a 0 36 _ e (omega arith) (λ e. either-few a 4 36 _ e (omega arith) (λ e. either-few a 16 36 _ e (omega arith)
-    (λ e. either-few a 20 36 _ e (omega arith) (λ e. either-few a 32 36 _ e (omega arith) (λ e. omega (arith, eqb-true a 36 e))))))
+    either-few a 0 84 _ e (omega arith) (λ e. either-few a 4 84 _ e (omega arith) (λ e. either-few a 16 84 _ e (omega arith)
+    (λ e. either-few a 20 84 _ e (omega arith) (λ e. either-few a 32 84 _ e (omega arith) (λ e. either-few a 36 84 _ e (omega arith)
+    (λ e. omega (arith, eqb-true a 84 e)))))))
 
 module _ (t : Tables) (a : Agrees t) where
   facts : Facts t
@@ -82,7 +83,7 @@ module _ (t : Tables) (a : Agrees t) where
       (λ (b : isBinary (s .attributes) ≡ false). omega (arith, f .whenLive l .unowned b .owner)) (tested (isBinary (s .attributes))))
       (λ (n : isLive s ≡ false). omega (arith, f .whenFree n .owner)) (tested (isLive s))
 
-  class-few : (j : ℕ) → nthSlot t j .attributes ≤ 36
+  class-few : (j : ℕ) → nthSlot t j .attributes ≤ 84
   class-few j =
       ⊎-elim (λ (l : isLive (nthSlot t j) ≡ true). attributes-few (nthSlot t j .attributes) (facts .slots j .whenLive l .attributed))
       (λ (n : isLive (nthSlot t j) ≡ false). omega (arith, facts .slots j .whenFree n .attributes)) (tested (isLive (nthSlot t j)))
@@ -113,7 +114,7 @@ module _ (t : Tables) (a : Agrees t) where
       let f = facts .slots j in
       slot-row-words (nthSlot t j) (omega (arith, f .generation)) (omega (arith, f .live)) (omega (arith, f .name)) (omega (arith, class-few j))
       (omega (arith, f .count)) (omega (arith, owner-few j)) (omega (arith, f .nest))
-      (omega (arith, maximum-within _ _ (nthSlot t j) f)) (queue-few j) (queue-words j)
+      (omega (arith, maximum-within _ (nthSlot t j) f)) (queue-few j) (queue-words j)
 
   -- the sequence of ready tasks is within its places, and its entries are tasks
   pub ready-few : length (t .ready) ≤ 32

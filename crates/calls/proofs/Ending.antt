@@ -1,38 +1,70 @@
 -- What delete and flush do: a slot without its waiters is stored, and then they are woken.
-use mathlib.Core.Path.{_≡_, refl, sym, ap, _∙_}
+use mathlib.Core.Path.{_≡_, refl, sym, subst, ap, _∙_}
 use mathlib.Core.Bool.{Bool, true, false}
 use mathlib.Core.List.{List}
-use Prim.Native.Nat.{ℕ, _+_, _≤_, _<_}
+use Prim.Native.Nat.{ℕ, pred, _+_, _≤_, _<_}
 use native.Mathlib.Omega.{arith}
 use lib.Dec.{eqb}
 use lib.ListN.{length, getD, take}
 use Rattle.laws.specs.Choose.{choose, _and_, isnt}
+use Rattle.laws.specs.Rows.{fit}
+use Rattle.laws.proofs.Fit.{getD-fit}
 use Rattle.laws.proofs.Choose.{if-yes, if-no}
 use Rattle.rules.specs.Numbers.{isBinary}
-use Rattle.rules.specs.Machine.{Slot, Tables, freeSlot, slotOf, putSlot, slotNamed}
-use Rattle.rules.specs.Agreement.{Agrees}
-use Rattle.rules.specs.Semaphore.{flushStep}
+use Rattle.rules.specs.Machine.{Slot, Tables, freeSlot, slotOf, putSlot, urgency, slotNamed}
+use Rattle.rules.specs.Agreement.{Agrees, occurs}
+use Rattle.rules.specs.Semaphore.{servingOrder, flushStep}
 use Rattle.rules.specs.Calls.{Outcome, answered, refused, taskOnly, anyCaller, wakeAll, deleteRefusal, delete, flushRefusal, flush}
+use Rattle.rules.proofs.Serving.{serving-length, serving-occurs}
+use Rattle.rules.proofs.Invariants.Lists.{occurs-at}
+use Rattle.rules.proofs.Invariants.FromTests.{agrees-facts}
+use Rattle.rules.proofs.Invariants.Room.{waiter-within}
 use Rattle.semaphore.specs.declared.Semaphore.{Semaphore}
 use Rattle.semaphore.specs.Record.{slotFrom}
+use Rattle.semaphore.proofs.Queue.{held}
 use Rattle.tables.specs.Layout.{laid}
 use Rattle.calls.specs.declared.enter.Entered.{Entered}
 use Rattle.calls.specs.Entered.{Found, Enters}
+use Rattle.calls.proofs.Agreeing.{tasks-few}
 use Rattle.calls.proofs.Doing.{unless-refused, unless-done}
-use Rattle.calls.proofs.Entering.{task-first, any-first, entry-refused, entry-passed, waiter-tasks, ready-room}
+use Rattle.calls.proofs.Entering.{task-first, any-first, entry-refused, entry-passed, waiters-are, ready-room}
 
 -- slot n as it is without waiters, and then they are woken with that answer
 abbrev pub emptied : Tables → ℕ → Slot → ℕ → Tables
-emptied t n slot answer = wakeAll (putSlot t n slot) (slotOf t n .queue) answer
+emptied t n slot answer = wakeAll (putSlot t n slot) (servingOrder (urgency t) (slotOf t n)) answer
 
-pub emptied-laid : {t : Tables} → Agrees t → {id n : ℕ} {s : Semaphore} → Found t id n s → (slot : Slot) (answer : ℕ) {bs₁ bs₂ : List ℕ}
-    → bs₁ ≡ laid (putSlot t n slot)
-    → ((t : Tables) → bs₁ ≡ laid t → ((k : ℕ) → k < s .waiters → getD (s .queue) k 0 ≤ length (t .tasks)) → length (t .ready) + s .waiters ≤ 32
-    → bs₂ ≡ laid (wakeAll t (take (s .waiters) (s .queue)) answer))
-    → bs₂ ≡ laid (emptied t n slot answer)
-emptied-laid {t} a {n = n} f slot answer stored woken =
-    woken (putSlot t n slot) stored (λ k h. waiter-tasks a f k h .1) (ready-room a f)
-    ∙ ap (λ (y : Slot). laid (wakeAll (putSlot t n slot) (y .queue) answer)) (f .stands .same)
+-- the order in which they are woken, in 32 places
+module _ {t : Tables} (a : Agrees t) {id n : ℕ} {s : Semaphore} (f : Found t id n s) (order : List ℕ)
+    (is : order ≡ fit 32 0 (servingOrder (urgency t) (slotFrom s))) where
+  in-order : order ≡ fit 32 0 (servingOrder (urgency t) (slotOf t n))
+  in-order = is ∙ ap (λ (y : Slot). fit 32 0 (servingOrder (urgency t) y)) (f .stands .same)
+
+  long : length (servingOrder (urgency t) (slotOf t n)) ≡ s .waiters
+  long = serving-length (urgency t) (slotOf t n) ∙ sym (waiters-are (f .stands))
+
+  -- each is a task
+  pub ordered-tasks : (k : ℕ) → k < s .waiters → (1 ≤ getD order k 0) × (getD order k 0 ≤ length (t .tasks))
+  ordered-tasks k h =
+      let there : getD order k 0 ≡ getD (servingOrder (urgency t) (slotOf t n)) k 0 =
+      ap (λ (xs : List ℕ). getD xs k 0) in-order ∙ getD-fit 32 0 (servingOrder (urgency t) (slotOf t n)) k (omega (arith, f .stands .padded .few))
+      in
+      let stands : 1 ≤ occurs (getD (servingOrder (urgency t) (slotOf t n)) k 0) (slotOf t n .queue) =
+      subst (λ (c : ℕ). 1 ≤ c) (serving-occurs (urgency t) (slotOf t n) _) (occurs-at (servingOrder (urgency t) (slotOf t n)) k (omega (arith, long)))
+      in
+      let w = waiter-within t (agrees-facts t a) (pred n) (f .live) _ stands in
+      (omega (arith, there, w .0), omega (arith, there, w .1))
+
+  pub ordered-few : (k : ℕ) → k < s .waiters → getD order k 0 ≤ 32
+  ordered-few k h = omega (arith, ordered-tasks k h .1, tasks-few t a)
+
+  pub emptied-laid : (slot : Slot) (answer : ℕ) {bs₁ bs₂ : List ℕ} → bs₁ ≡ laid (putSlot t n slot)
+      → ((t : Tables) → bs₁ ≡ laid t → ((k : ℕ) → k < s .waiters → getD order k 0 ≤ length (t .tasks)) → length (t .ready) + s .waiters ≤ 32
+      → bs₂ ≡ laid (wakeAll t (take (s .waiters) order) answer))
+      → bs₂ ≡ laid (emptied t n slot answer)
+  emptied-laid slot answer stored woken =
+      woken (putSlot t n slot) stored (λ k h. ordered-tasks k h .1) (ready-room a f)
+      ∙ ap (λ (xs : List ℕ). laid (wakeAll (putSlot t n slot) xs answer))
+      (ap (take (s .waiters)) in-order ∙ held 32 0 (servingOrder (urgency t) (slotOf t n)) (s .waiters) (sym long) (omega (arith, long, f .stands .padded .few)))
 
 abbrev pub owned : Slot → Bool
 owned s = isBinary (s .attributes) and isnt (eqb (s .owner) 0)

@@ -88,18 +88,6 @@ module _ {t : Tables} (a : Agrees t) {id n : ℕ} {s : Semaphore} (f : Found t i
   pub slot-few : n ≤ 64
   slot-few = omega (arith, f .high, slots-few t a)
 
-  -- who waits in its queue is a task
-  pub waiter-tasks : (k : ℕ) → k < s .waiters → (1 ≤ getD (s .queue) k 0) × (getD (s .queue) k 0 ≤ length (t .tasks))
-  waiter-tasks k h =
-      let q : getD (slotOf t n .queue) k 0 ≡ getD (s .queue) k 0 =
-      sym (ap (λ (x : Slot). getD (x .queue) k 0) (f .stands .same)) ∙ getD-take (s .waiters) (s .queue) k 0 h
-      in
-      let w = entry-tasks t a (pred n) k (omega (arith, waiters-are (f .stands))) in
-      (subst (λ (y : ℕ). 1 ≤ y) q (w .0), subst (λ (y : ℕ). y ≤ length (t .tasks)) q (w .1))
-
-  pub waiter-few : (k : ℕ) → k < s .waiters → getD (s .queue) k 0 ≤ 32
-  waiter-few k h = omega (arith, waiter-tasks k h .1, tasks-few t a)
-
   -- there is room for a caller that does not wait
   pub room : {caller : ℕ} → Caller t caller → s .waiters < 32
   room {caller} who =

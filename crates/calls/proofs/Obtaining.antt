@@ -1,21 +1,20 @@
 -- What obtain answers and leaves.
 use mathlib.Core.Path.{_≡_, sym, subst, ap, _∙_}
-use mathlib.Core.List.{List, [], _∷_}
-use Prim.Native.Nat.{ℕ, suc, _-_, _≤_}
+use mathlib.Core.List.{List}
+use Prim.Native.Nat.{ℕ, _-_, _≤_}
 use native.Mathlib.Omega.{arith}
-use lib.Dec.{leb, eqb}
+use lib.Dec.{eqb}
 use lib.ListN.{length}
 use borrow.Author.Tests.{le-leb}
 use Rattle.laws.specs.Choose.{choose}
-use Rattle.laws.proofs.Choose.{both-and, false-isnt, if-eq, if-ne, choose-cases}
+use Rattle.laws.proofs.Choose.{both-and, false-isnt, if-eq, if-ne}
 use Rattle.words.specs.Words.{wordAt}
 use Rattle.words.proofs.WordsInBytes.{Bytes}
 use Rattle.rules.specs.declared.Task.{Task}
 use Rattle.rules.specs.declared.Wait.{Wait}
-use Rattle.rules.specs.Numbers.{byPriority}
-use Rattle.rules.specs.Machine.{Slot, Tables, taskOf, slotOf, putSlot, urgency}
+use Rattle.rules.specs.Machine.{Slot, Tables, taskOf, slotOf, putSlot}
 use Rattle.rules.specs.Agreement.{Agrees, occurs}
-use Rattle.rules.specs.Semaphore.{ahead, placeOf, Taken, takeStep}
+use Rattle.rules.specs.Semaphore.{Taken, takeStep}
 use Rattle.rules.specs.Calls.{Outcome, answered, refused, unless, taskOnly, beginWait, blocked, obtainRefusal, obtain}
 use Rattle.rules.proofs.Invariants.Lists.{bit-yes}
 use Rattle.rules.proofs.Invariants.FromTests.{agrees-facts}
@@ -28,23 +27,11 @@ use Rattle.calls.specs.declared.enter.Entered.{Entered}
 use Rattle.calls.specs.Entered.{Enters}
 use Rattle.calls.proofs.Agreeing.{tasks-few, ready-few}
 use Rattle.calls.proofs.Doing.{unless-refused, unless-done}
-use Rattle.calls.proofs.Entering.{task-first, entry-refused, entry-caller, entry-passed, waiters-are}
-
-ahead-within : (u : ℕ → ℕ) (p : ℕ) (qs : List ℕ) → ahead u p qs ≤ length qs
-unfolding ahead
-ahead-within u p [] = omega arith
-ahead-within u p (q ∷ qs) =
-    choose-cases (λ (k : ℕ). k ≤ suc (length qs)) (leb (u q) p) (suc (ahead u p qs)) 0 (λ e. omega (arith, ahead-within u p qs)) (λ e. omega arith)
-
--- a task joins a queue within it or at its end
-place-within : (u : ℕ → ℕ) (s : Slot) (q : ℕ) → placeOf u s q ≤ length (s .queue)
-unfolding placeOf
-place-within u s q =
-    choose-cases (λ (k : ℕ). k ≤ length (s .queue)) (byPriority (s .attributes)) _ _ (λ e. ahead-within u (u q) (s .queue)) (λ e. omega arith)
+use Rattle.calls.proofs.Entering.{task-first, entry-refused, entry-caller, entry-passed}
 
 -- one semaphore's step of the call
 abbrev pub taking : Tables → ℕ → ℕ → Wait → Taken
-taking t n caller wait = takeStep (slotOf t n) caller (placeOf (urgency t) (slotOf t n) caller) wait
+taking t n caller wait = takeStep (slotOf t n) caller wait
 
 -- the tables with the slot as it is after that step, and with the caller blocked on it
 abbrev pub took : Tables → ℕ → ℕ → Wait → Tables
@@ -63,19 +50,9 @@ module _ {t : Tables} (caller : ℕ) {x id : ℕ} {r : Entered} (is : x ≡ task
     pub ready-task : Caller t caller
     ready-task = task-only t caller 0 (sym is ∙ entry-caller (task-first t caller) is e 0 (refused t 0) z) .0
 
-    module _ (place : ℕ) (at : place ≡ placeOf (urgency t) (slotFrom (r .semaphore)) caller) where
-      place-is : place ≡ placeOf (urgency t) (slotOf t (r .slot)) caller
-      place-is = at ∙ ap (λ (y : Slot). placeOf (urgency t) y caller) (e .found z .stands .same)
-
-      pub place-few : place ≤ r .semaphore .waiters
-      place-few = omega (arith, place-is, place-within (urgency t) (slotOf t (r .slot)) caller, waiters-are (e .found z .stands))
-
-      -- a step on the record is that on the slot
-      pub taken-slot : (wait : Wait) {k : TakenRecord} → TakenIs k (takeStep (slotFrom (r .semaphore)) caller place wait)
-          → TakenIs k (taking t (r .slot) caller wait)
-      taken-slot wait {k} taken =
-          subst (λ (y : Slot). TakenIs k (takeStep y caller (placeOf (urgency t) (slotOf t (r .slot)) caller) wait)) (e .found z .stands .same)
-          (subst (λ (p : ℕ). TakenIs k (takeStep (slotFrom (r .semaphore)) caller p wait)) place-is taken)
+    -- a step on the record is that on the slot
+    pub taken-slot : (wait : Wait) {k : TakenRecord} → TakenIs k (takeStep (slotFrom (r .semaphore)) caller wait) → TakenIs k (taking t (r .slot) caller wait)
+    taken-slot wait {k} taken = subst (λ (y : Slot). TakenIs k (takeStep y caller wait)) (e .found z .stands .same) taken
 
     module _ (wait : Wait) {k : TakenRecord} (taken : TakenIs k (taking t (r .slot) caller wait)) where
       abbrev done : ℕ → Outcome

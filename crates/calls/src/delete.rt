@@ -1,4 +1,4 @@
-// Delete: 18, 4, 14, then 4, 12.
+// Delete: 18, 4, 14, then 4, 12. The order of waking is that of the tables before it.
 use super::Done;
 use super::enter::enter;
 use semaphore::Semaphore;
@@ -33,9 +33,9 @@ pub fn delete(m: &mut [u8], caller: u32, id: u32) -> Done
     if is_owned(s) {
         return Done(rules::RESOURCE_IN_USE, 0);
     }
+    let order = lookup::serving::serving_order(m, s);
     let freed = semaphore::free(s.generation);
     changes::put_slot(m, e.slot, freed);
-    let queue = s.queue;
-    changes::wake_all(m, queue, s.waiters as usize, rules::OBJECT_WAS_DELETED);
+    changes::wake_all(m, order, s.waiters as usize, rules::OBJECT_WAS_DELETED);
     Done(0, 0)
 }

@@ -1,4 +1,4 @@
-// Flush: 4, 14, then 4.
+// Flush: 4, 14, then 4. The order of waking is that of the tables before it.
 use super::Done;
 use super::enter::enter;
 ghost use Rattle.rules.specs.Calls.{flush};
@@ -15,10 +15,10 @@ pub fn flush(m: &mut [u8], caller: u32, id: u32) -> Done
         return Done(e.refusal, 0);
     }
     let s = e.semaphore;
+    let order = lookup::serving::serving_order(m, s);
     let flushed = s.flush();
     let emptied = flushed.semaphore;
     changes::put_slot(m, e.slot, emptied);
-    let queue = s.queue;
-    changes::wake_all(m, queue, s.waiters as usize, rules::UNSATISFIED);
+    changes::wake_all(m, order, s.waiters as usize, rules::UNSATISFIED);
     Done(0, 0)
 }

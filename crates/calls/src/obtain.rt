@@ -43,8 +43,7 @@ pub fn obtain(m: &mut [u8], caller: u32, id: u32, wait: Wait) -> Done
         return Done(e.refusal, 0);
     }
     let s = e.semaphore;
-    let place = lookup::place_of(m, s, caller);
-    let taken = s.take(caller, place, wait);
+    let taken = s.take(caller, wait);
     let status = taken.status;
     if status == rules::UNSATISFIED {
         return Done(rules::UNSATISFIED, 0);

@@ -14,9 +14,9 @@ use Rattle.laws.proofs.Choose.{choose-cases, if-yes, if-no, and-both, both-and,
 use Rattle.rules.specs.declared.Wait.{Wait}
 use Rattle.rules.specs.declared.Wait.the-variants.{Poll, Forever}
 use Rattle.rules.specs.Numbers.{allowed, isBinary, classMaximum, allowedCount}
-use Rattle.rules.specs.Machine.{Slot, Tables, taskOf, slotOf, slotNamed, urgency}
+use Rattle.rules.specs.Machine.{Slot, Tables, taskOf, slotOf, slotNamed}
 use Rattle.rules.specs.Agreement.{agrees}
-use Rattle.rules.specs.Semaphore.{Taken, Given, polls, placeOf, takeStep, giveStep, passStep}
+use Rattle.rules.specs.Semaphore.{Taken, Given, polls, takeStep, giveStep, passStep}
 use Rattle.rules.specs.Calls.{Outcome, openSlot, createRefusal, create, obtainRefusal, obtain, releaseRefusal, release, perform}
 use Rattle.rules.proofs.Invariants.Agreeing.{true-agrees}
 use Rattle.rules.proofs.Invariants.FromTests.{agrees-facts}
@@ -62,8 +62,8 @@ refusal-listed (TwaiSem caller semid tmout) t list = search choose-in depth 14
 -- ---- a Classic call that its checks let through
 
 -- one semaphore's step, of a semaphore without an owner: a poll is refused, and another wait begins
-module _ (s : Slot) (unowned : isBinary (s .attributes) ≡ false) (caller place : ℕ) (wait : Wait) where
-  take-begins : takeStep s caller place wait .status ≡ 100 → polls wait ≡ false
+module _ (s : Slot) (unowned : isBinary (s .attributes) ≡ false) (caller : ℕ) (wait : Wait) where
+  take-begins : takeStep s caller wait .status ≡ 100 → polls wait ≡ false
   unfolding takeStep
   take-begins =
       choose-cases P _ _ _ (λ e z. absurd (omega arith))
@@ -73,7 +73,7 @@ module _ (s : Slot) (unowned : isBinary (s .attributes) ≡ false) (caller place
       P : Taken → Type 0
       P x = x .status ≡ 100 → polls wait ≡ false
 
-  take-refused : takeStep s caller place wait .status ≡ 13 → polls wait ≡ true
+  take-refused : takeStep s caller wait .status ≡ 13 → polls wait ≡ true
   unfolding takeStep
   take-refused =
       choose-cases P _ _ _ (λ e z. absurd (omega arith))
@@ -114,9 +114,9 @@ module _ (t : Tables) (caller : ℕ) (P : ℕ → Type 0) (done : P 0) where
         subst (λ (n : ℕ). isBinary (slotOf t n .attributes) ≡ false) (sym at) (counting-unowned (slotOf t (id % 65536) .attributes) (m .counting))
 
     -- a release is done, or the count is at the maximum
-    release-step : P 13 → P (giveStep slot caller .status)
+    release-step : (place : ℕ) → P 13 → P (giveStep slot caller place .status)
     unfolding giveStep passStep
-    release-step full =
+    release-step place full =
         choose-cases Q _ _ _ (λ e. never (and-both _ _ e .0) unowned)
         (λ e. choose-cases Q _ _ _ (λ e. done)
         (λ e. choose-cases Q _ _ _ (λ e. done) (λ e. choose-cases Q _ _ _ (λ e. full) (λ e. done))))
@@ -128,23 +128,20 @@ module _ (t : Tables) (caller : ℕ) (P : ℕ → Type 0) (done : P 0) where
     unfolding release releaseRefusal
     release-gives c full =
         choose-cases Gives (eqb (releaseRefusal t caller id) 0) _ _ (λ y. done)
-        (λ y. subst P (sym (any-may t caller c _ ∙ if-yes _ _ (named-names t id (m .named)))) (release-step full))
+        (λ y. subst P (sym (any-may t caller c _ ∙ if-yes _ _ (named-names t id (m .named)))) (release-step _ full))
 
     -- an obtain is done, or refused where it polls, or else begins a wait
     obtain-gives : (wait : Wait) → Caller t caller → (polls wait ≡ true → P 13) → (polls wait ≡ false → P 100) → Gives (obtain t caller id wait)
     unfolding obtain obtainRefusal
     obtain-gives wait c none begun =
         choose-cases Gives (eqb (obtainRefusal t caller id wait) 0) _ _
-        (λ y. choose-cases Gives (eqb status 100) _ _ (λ z. begun (take-begins slot unowned caller place wait (eqb-true _ _ z))) (λ z. done))
+        (λ y. choose-cases Gives (eqb status 100) _ _ (λ z. begun (take-begins slot unowned caller wait (eqb-true _ _ z))) (λ z. done))
         (λ y.
         subst P (sym (task-may t caller c _ ∙ if-yes _ _ (named-names t id (m .named))))
-        (choose-cases P (eqb status 13) 13 0 (λ z. none (take-refused slot unowned caller place wait (eqb-true _ _ z))) (λ z. done)))
+        (choose-cases P (eqb status 13) 13 0 (λ z. none (take-refused slot unowned caller wait (eqb-true _ _ z))) (λ z. done)))
       where
-        place : ℕ
-        place = placeOf (urgency t) slot caller
-
         status : ℕ
-        status = takeStep slot caller place wait .status
+        status = takeStep slot caller wait .status
 
 -- ---- the numbers of cre_sem
 

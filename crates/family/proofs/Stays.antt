@@ -18,7 +18,7 @@ use Rattle.rules.specs.declared.Wait.{Wait}
 use Rattle.rules.specs.Machine.{Slot, Tables, freeSlot, withSlots, slotOf, putSlot, isLive, slotNamed}
 use Rattle.rules.specs.Semaphore.{Taken, Given, takeStep, giveStep, passStep, flushStep}
 use Rattle.rules.specs.Calls.{Outcome, unless, openSlot, startRefusal, start, createRefusal, create, firstNamed, ident}
-use Rattle.rules.specs.Calls.{deleteRefusal, delete, obtainRefusal, obtain, releaseRefusal, release, flushRefusal, flush, tickedSlot, tick, perform}
+use Rattle.rules.specs.Calls.{deleteRefusal, delete, obtainRefusal, obtain, giveOf, releaseRefusal, release, flushRefusal, flush, tickedSlot, tick, perform}
 use Rattle.rules.proofs.Searching.{Hit, isOpen}
 use Rattle.rules.proofs.History.Passed.{create-passed, delete-passed}
 use Rattle.rules.proofs.History.Forward.{woken-slots, ticked-slot}
@@ -69,9 +69,9 @@ stays-else t n s h = record {
 }
 
 -- one semaphore's steps
-same-taken : (s : Slot) (caller place : ℕ) (wait : Wait) → SlotStays s (takeStep s caller place wait .slot)
+same-taken : (s : Slot) (caller : ℕ) (wait : Wait) → SlotStays s (takeStep s caller wait .slot)
 unfolding takeStep
-same-taken s caller place wait =
+same-taken s caller wait =
     choose-cases P _ _ _ (λ e. slot-same s _ refl refl refl refl)
     (λ e. choose-cases P _ _ _
     (λ e. choose-cases P _ _ _ (λ e. slot-stays s) (λ e. slot-same s _ refl refl refl refl))
@@ -80,9 +80,9 @@ same-taken s caller place wait =
     P : Taken → Type 0
     P x = SlotStays s (x .slot)
 
-same-given : (s : Slot) (caller : ℕ) → SlotStays s (giveStep s caller .slot)
+same-given : (s : Slot) (caller place : ℕ) → SlotStays s (giveStep s caller place .slot)
 unfolding giveStep passStep
-same-given s caller =
+same-given s caller place =
     choose-cases P _ _ _ (λ e. slot-stays s)
     (λ e. choose-cases P _ _ _ (λ e. slot-same s _ refl refl refl refl)
     (λ e. choose-cases P _ _ _ (λ e. slot-same s _ refl refl refl refl)
@@ -137,10 +137,10 @@ module _ (t : Tables) where
   unfolding obtain
   obtain-stays caller id wait =
       unless-stays 0 (obtainRefusal t caller id wait) _ (λ e. choose-cases (Left 0) _ _ _
-      (λ f. stays-slots _ refl (put _)) (λ f. put _))
+      (λ f. stays-slots _ refl put) (λ f. put))
     where
-      put : (place : ℕ) → Stays t (putSlot t (slotNamed t id) (takeStep (slotOf t (slotNamed t id)) caller place wait .slot)) 0
-      put place = stays-put t (slotNamed t id) _ (same-taken (slotOf t (slotNamed t id)) caller place wait)
+      put : Stays t (putSlot t (slotNamed t id) (takeStep (slotOf t (slotNamed t id)) caller wait .slot)) 0
+      put = stays-put t (slotNamed t id) _ (same-taken (slotOf t (slotNamed t id)) caller wait)
 
   release-stays : (caller id : ℕ) → Left 0 (release t caller id)
   unfolding release
@@ -148,8 +148,8 @@ module _ (t : Tables) where
       unless-stays 0 (releaseRefusal t caller id) _
       (λ e. choose-cases (λ (u : Tables). Stays t u 0) _ _ _ (λ f. put) (λ f. stays-slots _ refl put))
     where
-      put : Stays t (putSlot t (slotNamed t id) (giveStep (slotOf t (slotNamed t id)) caller .slot)) 0
-      put = stays-put t (slotNamed t id) _ (same-given (slotOf t (slotNamed t id)) caller)
+      put : Stays t (putSlot t (slotNamed t id) (giveOf t (slotOf t (slotNamed t id)) caller .slot)) 0
+      put = stays-put t (slotNamed t id) _ (same-given (slotOf t (slotNamed t id)) caller _)
 
   flush-stays : (caller id : ℕ) → Left 0 (flush t caller id)
   unfolding flush flushStep

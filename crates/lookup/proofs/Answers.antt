@@ -6,18 +6,13 @@ use Prim.Native.Nat.{ℕ, pred, _-_, _/_, _%_, _≤_, _<_}
 use native.Mathlib.Omega.{arith}
 use lib.Dec.{ltb, eqb}
 use lib.ListN.{length, getD}
-use lib.Seq.{length-take-le}
 use borrow.Author.Tests.{eq-eqb, ne-eqb, le-leb, lt-leb}
 use Rattle.laws.specs.Choose.{choose, _and_, isnt}
 use Rattle.laws.proofs.Choose.{if-yes, if-no, if-lt, if-not-lt, choose-same, both-and}
 use Rattle.words.specs.Words.{wordAt}
 use Rattle.rules.specs.declared.Task.{Task}
-use Rattle.rules.specs.Numbers.{byPriority}
-use Rattle.rules.specs.Machine.{Slot, noTask, freeSlot, taskOf, slotOf, waits, urgency, names, slotNamed}
-use Rattle.rules.specs.Semaphore.{ahead, placeOf}
+use Rattle.rules.specs.Machine.{Slot, noTask, freeSlot, taskOf, slotOf, waits, names, slotNamed}
 use Rattle.rules.specs.Calls.{callerRefusal}
-use Rattle.semaphore.specs.declared.Semaphore.{Semaphore}
-use Rattle.semaphore.specs.Record.{slotFrom}
 use Rattle.tables.specs.Layout.{modelOf, taskAt, recordAt}
 use Rattle.lookup.specs.declared.looks.Look.{Look}
 use Rattle.lookup.specs.Search.{isMatch}
@@ -33,14 +28,14 @@ and-second a {b} e = ap (λ (b : Bool). a and b) e ∙ choose-same a false
 -- ---- a task by its number
 
 module _ (bs : List ℕ) where
-  task-of : (q i : ℕ) (v : Task) → i ≡ pred q → i < wordAt bs 0 → v ≡ taskAt bs i → taskOf (modelOf bs) q ≡ v
+  pub task-of : (q i : ℕ) (v : Task) → i ≡ pred q → i < wordAt bs 0 → v ≡ taskAt bs i → taskOf (modelOf bs) q ≡ v
   task-of q i v p h e = ap (λ (k : ℕ). getD (modelOf bs .tasks) k noTask) (sym p) ∙ task-read bs i h ∙ sym e
 
-  pub urgency-of : (q i : ℕ) (v : Task) → i ≡ pred q → i < wordAt bs 0 → v ≡ taskAt bs i → v .priority ≡ urgency (modelOf bs) q
-  urgency-of q i v p h e = sym (ap (λ (v : Task). v .priority) (task-of q i v p h e))
+  pub own-of : (q i : ℕ) (v : Task) → i ≡ pred q → i < wordAt bs 0 → v ≡ taskAt bs i → v .priority ≡ taskOf (modelOf bs) q .priority
+  own-of q i v p h e = sym (ap (λ (v : Task). v .priority) (task-of q i v p h e))
 
-  pub urgency-none : (q i : ℕ) → i ≡ pred q → wordAt bs 0 ≤ i → 0 ≡ urgency (modelOf bs) q
-  urgency-none q i p h =
+  pub own-none : (q i : ℕ) → i ≡ pred q → wordAt bs 0 ≤ i → 0 ≡ taskOf (modelOf bs) q .priority
+  own-none q i p h =
       sym (ap (λ (k : ℕ). getD (modelOf bs .tasks) k noTask .priority) (sym p) ∙ ap (λ (v : Task). v .priority) (task-none bs i h))
 
   pub refused-above : (caller : ℕ) → wordAt bs 0 < caller → 4 ≡ callerRefusal (modelOf bs) caller
@@ -126,14 +121,3 @@ module _ (bs : List ℕ) (id : ℕ) where
         (eq-eqb (slotOf (modelOf bs) (id % 65536) .generation) (id / 65536) (generation-word ∙ g))))
         in
         sym (if-yes (id % 65536) 0 all)
-
--- ---- where a task joins a queue
-
-module _ (urgency : ℕ → ℕ) (s : Semaphore) (q : ℕ) (t : Bool) (asked : t ≡ byPriority (s .attributes)) where
-  pub place-ahead : (p r : ℕ) → t ≡ true → p ≡ urgency q → r ≡ ahead urgency p (slotFrom s .queue) → r ≡ placeOf urgency (slotFrom s) q
-  unfolding placeOf
-  place-ahead p r e u a = a ∙ ap (λ (p : ℕ). ahead urgency p (slotFrom s .queue)) u ∙ sym (if-yes _ _ (sym asked ∙ e))
-
-  pub place-rear : t ≡ false → s .waiters ≤ length (s .queue) → s .waiters ≡ placeOf urgency (slotFrom s) q
-  unfolding placeOf
-  place-rear e f = sym (if-no _ _ (sym asked ∙ e) ∙ length-take-le (s .waiters) (s .queue) f)

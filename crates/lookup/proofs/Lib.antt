@@ -3,3 +3,5 @@ pub mod Searches
 pub mod Answers
 pub mod LastLook
 pub mod CallerAndSlot
+pub mod Lending
+pub mod ServingOrder

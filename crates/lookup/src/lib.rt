@@ -1,16 +1,15 @@
 // What the calls ask of the tables. Nothing here writes.
 pub mod looks;
+pub mod serving;
+pub mod working;
 
 use rules::Best;
-use semaphore::Semaphore;
 ghost use mathlib.Core.Path.{_≡_};
 ghost use Prim.Native.Nat.{pred, _≤_};
 ghost use lib.Dec.{ltb, eqb};
 ghost use Rattle.laws.specs.Choose.{_and_, isnt};
-ghost use Rattle.rules.specs.Machine.{next, urgency, slotNamed};
-ghost use Rattle.rules.specs.Semaphore.{ahead, placeOf};
+ghost use Rattle.rules.specs.Machine.{next, slotNamed};
 ghost use Rattle.rules.specs.Calls.{taskOnly, anyCaller, callerRefusal, openSlot};
-ghost use Rattle.semaphore.specs.Record.{slotFrom};
 ghost use Rattle.tables.specs.Layout.{modelOf};
 ghost use Rattle.tables.specs.Sizes.{Sized};
 
@@ -20,6 +19,7 @@ pub fn next_task(m: &[u8]) -> u32
 {
     let tasks = tables::task_count(m) as usize;
     let ready = tables::ready_count(m) as usize;
+    let lenders = working::load_lenders(m);
     let mut best = Best {
         task: 0,
         priority: rules::ABOVE_ALL,
@@ -27,7 +27,8 @@ pub fn next_task(m: &[u8]) -> u32
     let mut k = 0;
     while k < ready {
         let q = tables::ready_entry(m, k);
-        best = rules::better(best, tasks, q, priority_of(m, q));
+        let p = working::urgency(m, &lenders.to, q, lenders.links);
+        best = rules::better(best, tasks, q, p);
         k += 1;
     }
     best.task
@@ -41,20 +42,6 @@ pub fn index_of(q: u32) -> u32
         return 0;
     }
     q - 1
-}
-
-// A task's priority, 0 for a number above N.
-pub fn priority_of(m: &[u8], q: u32) -> u32
-    requires { ⌜ Sized (now m) ⌝ }
-    ensures { λ r. ⌜ r ≡ urgency (modelOf (now (m .entry))) q ⌝ }
-{
-    let n = tables::task_count(m);
-    let i = index_of(q);
-    if n <= i {
-        return 0;
-    }
-    let v = tables::load_task(m, i as usize);
-    v.priority
 }
 
 // Why a task may not call: 4 above N, 14 while it waits, else 0.
@@ -143,34 +130,4 @@ pub fn slot_named(m: &[u8], id: u32) -> u32
         return 0;
     }
     n
-}
-
-// How many at the front of a queue are of equal or more urgent priority than p.
-fn ahead(m: &[u8], s: Semaphore, p: u32) -> usize
-    requires { ⌜ Sized (now m) × (s .waiters ≤ 32) ⌝ }
-    ensures { λ r. ⌜ r ≡ ahead (urgency (modelOf (now (m .entry)))) p (slotFrom s .queue) ⌝ }
-{
-    let waiters = s.waiters as usize;
-    let queue = s.queue;
-    let mut k = 0;
-    while k < waiters {
-        let u = priority_of(m, queue[k]);
-        if p < u {
-            return k;
-        }
-        k += 1;
-    }
-    k
-}
-
-// Where a task joins a queue.
-pub fn place_of(m: &[u8], s: Semaphore, q: u32) -> usize
-    requires { ⌜ Sized (now m) × (s .waiters ≤ 32) ⌝ }
-    ensures { λ r. ⌜ r ≡ placeOf (urgency (modelOf (now (m .entry)))) (slotFrom s) q ⌝ }
-{
-    if rules::is_by_priority(s.attributes) {
-        let p = priority_of(m, q);
-        return ahead(m, s, p);
-    }
-    s.waiters as usize
 }

@@ -3,8 +3,9 @@ use rules::Best;
 use rules::Task;
 ghost use mathlib.Core.Path.{_≡_};
 ghost use Prim.Native.Nat.{pred};
-ghost use Rattle.rules.specs.Machine.{unstarted, withTasks, withReady, next};
+ghost use lib.ListN.{getD};
 ghost use Rattle.rules.specs.Calls.{readied};
+ghost use Rattle.records.specs.Beside.{nextOf};
 
 // The index of task q in a list of tasks, which are counted from 1; 0, no task's number, has the first task's.
 fn index_of(q: u32) -> usize
@@ -16,11 +17,22 @@ fn index_of(q: u32) -> usize
     q as usize - 1
 }
 
-// The next task of a list of records of any length, as the core chooses it from the sequence of ready tasks; tasks are counted from 1,
-// and a number that is no record's is passed over.
+// The number that task q goes by: the working priority that is given for it, or its own where none is.
+fn goes_by(working: &[u32], q: u32, own: u32) -> u32
+    ensures { λ r. ⌜ r ≡ getD (now (working .entry)) (pred q) own ⌝ }
+{
+    let place = index_of(q);
+    if place < working.len() {
+        return working[place];
+    }
+    own
+}
+
+// The next task of a list of records of any length, as the core chooses it from the sequence of ready tasks by the working priorities that are
+// given beside the records; tasks are counted from 1, and a number that is no record's is passed over.
 #[no_mangle]
-pub extern "C" fn mast_next_task(tasks: &[Task], ready: &[u32]) -> u32
-    ensures { λ r. ⌜ r ≡ next (withReady (withTasks unstarted (now (tasks .entry))) (now (ready .entry))) ⌝ }
+pub extern "C" fn mast_next_task(tasks: &[Task], ready: &[u32], working: &[u32]) -> u32
+    ensures { λ r. ⌜ r ≡ nextOf (now (tasks .entry)) (now (ready .entry)) (now (working .entry)) ⌝ }
 {
     let mut best = Best {
         task: 0,
@@ -33,7 +45,7 @@ pub extern "C" fn mast_next_task(tasks: &[Task], ready: &[u32]) -> u32
         let i = index_of(q);
         if i < tasks.len() {
             let v = tasks[i];
-            best = rules::better(best, tasks.len(), q, v.priority);
+            best = rules::better(best, tasks.len(), q, goes_by(working, q, v.priority));
         }
     }
     best.task

@@ -143,7 +143,7 @@ fn are_steps_fit(scripts: &[u32], ids: &[u32], from: usize, id: u32) -> bool
     true
 }
 
-// 11: whether an identifier names a live unowned binary semaphore.
+// 11: whether an identifier names a live, unowned semaphore with attributes 16, 20 or 84.
 fn is_guard(m: &[u8], id: u32) -> bool
     requires { ⌜ Sized (now m) ⌝ }
     ensures { λ r. ⌜ r ≡ isGuard (modelOf (now (m .entry))) id ⌝ }

@@ -1,11 +1,12 @@
 -- One step accounts for the count (request 7). Of a semaphore without an owner: an obtain that is done takes one; a release that is done adds one, or hands it
--- to the first waiter, who leaves the queue; who waits joins the queue and takes nothing. A flush grants nothing.
+-- to the waiter served, who leaves the queue; who waits joins the queue and takes nothing. A flush grants nothing.
 use mathlib.Core.Path.{_≡_, refl, sym, subst, _∙_}
 use mathlib.Core.Bool.{false}
+use mathlib.Core.List.{[], _∷_, _++_}
 use Prim.Native.Nat.{ℕ, _+_, _≤_, _<_}
 use native.Mathlib.Omega.{arith}
 use lib.Dec.{leb, eqb}
-use lib.ListN.{length, getD, drop}
+use lib.ListN.{length, getD}
 use borrow.Author.Tests.{leb-true}
 use Rattle.laws.specs.Choose.{choose, bit}
 use Rattle.laws.proofs.Choose.{if-yes, if-no, if-le, if-not-le, never, and-both, choose-cases}
@@ -13,7 +14,7 @@ use Rattle.rules.specs.declared.Task.{Task}
 use Rattle.rules.specs.declared.Wait.{Wait}
 use Rattle.rules.specs.Numbers.{isBinary}
 use Rattle.rules.specs.Machine.{Slot, Tables}
-use Rattle.rules.specs.Semaphore.{insertAt, Taken, takeStep, Given, giveStep, passStep}
+use Rattle.rules.specs.Semaphore.{removeAt, Taken, takeStep, Given, giveStep, passStep}
 use Rattle.rules.specs.Calls.{Outcome, flushRefusal, flush}
 use Rattle.rules.proofs.Invariants.Facts.{nthTask}
 use Rattle.rules.proofs.Invariants.Waking.{wakeAll-keeps}
@@ -30,10 +31,10 @@ begun = if-no 1 0 refl
 
 module _ (s : Slot) (unowned : isBinary (s .attributes) ≡ false) where
   -- the count goes down by one exactly where the obtain is done
-  pub take-accounts : (caller place : ℕ) (wait : Wait) → let taken = takeStep s caller place wait in
+  pub take-accounts : (caller : ℕ) (wait : Wait) → let taken = takeStep s caller wait in
       taken .slot .count + bit (eqb (taken .status) 0) ≡ s .count
   unfolding takeStep
-  take-accounts caller place wait =
+  take-accounts caller wait =
       choose-cases P _ _ _ (λ e. let some : 1 ≤ s .count = leb-true 1 (s .count) e in omega (arith, done))
       (λ e. choose-cases P _ _ _ (λ own. never (and-both _ _ own .0) unowned)
       (λ e. choose-cases P _ _ _ (λ e. omega (arith, not-done)) (λ e. omega (arith, begun))))
@@ -41,53 +42,54 @@ module _ (s : Slot) (unowned : isBinary (s .attributes) ≡ false) where
       P : Taken → Type 0
       P taken = taken .slot .count + bit (eqb (taken .status) 0) ≡ s .count
 
-  pub take-queue : (caller place : ℕ) (wait : Wait) → let taken = takeStep s caller place wait in
-      taken .slot .queue ≡ choose (eqb (taken .status) 100) (insertAt place caller (s .queue)) (s .queue)
+  pub take-queue : (caller : ℕ) (wait : Wait) → let taken = takeStep s caller wait in
+      taken .slot .queue ≡ choose (eqb (taken .status) 100) (s .queue ++ caller ∷ []) (s .queue)
   unfolding takeStep
-  take-queue caller place wait =
+  take-queue caller wait =
       choose-cases P _ _ _ (λ e. sym (if-no _ _ refl))
       (λ e. choose-cases P _ _ _ (λ own. never (and-both _ _ own .0) unowned)
       (λ e. choose-cases P _ _ _ (λ e. sym (if-no _ _ refl)) (λ e. sym (if-yes _ _ refl))))
     where
       P : Taken → Type 0
-      P taken = taken .slot .queue ≡ choose (eqb (taken .status) 100) (insertAt place caller (s .queue)) (s .queue)
+      P taken = taken .slot .queue ≡ choose (eqb (taken .status) 100) (s .queue ++ caller ∷ []) (s .queue)
 
-  -- a release goes as that of a semaphore without an owner
-  gives : (caller : ℕ) → giveStep s caller ≡ passStep s
-  unfolding giveStep
-  gives caller = if-no _ _ (if-no _ _ unowned) ∙ if-no _ _ (if-no _ _ unowned)
+  module _ (caller place : ℕ) where
+    -- a release goes as that of a semaphore without an owner
+    gives : giveStep s caller place ≡ passStep s place
+    unfolding giveStep
+    gives = if-no _ _ (if-no _ _ unowned) ∙ if-no _ _ (if-no _ _ unowned)
 
-  pass-accounts : let given = passStep s in given .slot .count + bit (leb 1 (length (s .queue))) ≡ s .count + bit (eqb (given .status) 0)
-  unfolding passStep
-  pass-accounts =
-      choose-cases P _ _ _ (λ e. let one : bit (leb 1 (length (s .queue))) ≡ 1 = if-yes 1 0 e in omega (arith, done))
-      (λ e. let none : bit (leb 1 (length (s .queue))) ≡ 0 = if-no 1 0 e in
-      choose-cases P _ _ _ (λ m. omega (arith, none, not-done)) (λ m. omega (arith, none, done)))
-    where
-      P : Given → Type 0
-      P given = given .slot .count + bit (leb 1 (length (s .queue))) ≡ s .count + bit (eqb (given .status) 0)
+    pass-accounts : let given = passStep s place in given .slot .count + bit (leb 1 (length (s .queue))) ≡ s .count + bit (eqb (given .status) 0)
+    unfolding passStep
+    pass-accounts =
+        choose-cases P _ _ _ (λ e. let one : bit (leb 1 (length (s .queue))) ≡ 1 = if-yes 1 0 e in omega (arith, done))
+        (λ e. let none : bit (leb 1 (length (s .queue))) ≡ 0 = if-no 1 0 e in
+        choose-cases P _ _ _ (λ m. omega (arith, none, not-done)) (λ m. omega (arith, none, done)))
+      where
+        P : Given → Type 0
+        P given = given .slot .count + bit (leb 1 (length (s .queue))) ≡ s .count + bit (eqb (given .status) 0)
 
-  -- a done release adds one, or the first waiter has it
-  pub give-accounts : (caller : ℕ) → let given = giveStep s caller in
-      given .slot .count + bit (leb 1 (length (s .queue))) ≡ s .count + bit (eqb (given .status) 0)
-  give-accounts caller = rw (gives caller) pass-accounts
+    -- a done release adds one, or a waiter has it
+    pub give-accounts : let given = giveStep s caller place in
+        given .slot .count + bit (leb 1 (length (s .queue))) ≡ s .count + bit (eqb (given .status) 0)
+    give-accounts = rw gives pass-accounts
 
-  -- where somebody waits the first is woken and leaves the queue
-  pub give-serves : (caller : ℕ) → 1 ≤ length (s .queue)
-      → let given = giveStep s caller in (given .status ≡ 0) × (given .woken ≡ getD (s .queue) 0 0) × (given .slot .queue ≡ drop 1 (s .queue))
-  unfolding passStep
-  give-serves caller h =
-      subst (λ (given : Given). (given .status ≡ 0) × (given .woken ≡ getD (s .queue) 0 0) × (given .slot .queue ≡ drop 1 (s .queue)))
-      (sym (gives caller ∙ if-le 1 (length (s .queue)) _ _ h)) (refl, refl, refl)
+    -- where somebody waits the waiter at that place is woken and leaves the queue
+    pub give-serves : 1 ≤ length (s .queue) → let given = giveStep s caller place in
+        (given .status ≡ 0) × (given .woken ≡ getD (s .queue) place 0) × (given .slot .queue ≡ removeAt place (s .queue))
+    unfolding passStep
+    give-serves h =
+        subst (λ (given : Given). (given .status ≡ 0) × (given .woken ≡ getD (s .queue) place 0) × (given .slot .queue ≡ removeAt place (s .queue)))
+        (sym (gives ∙ if-le 1 (length (s .queue)) _ _ h)) (refl, refl, refl)
 
-  -- where nobody waits nobody is woken
-  pub give-alone : (caller : ℕ) → length (s .queue) < 1 → let given = giveStep s caller in (given .woken ≡ 0) × (given .slot .queue ≡ s .queue)
-  unfolding passStep
-  give-alone caller h =
-      subst P (sym (gives caller ∙ if-not-le 1 (length (s .queue)) _ _ h)) (choose-cases P _ _ _ (λ m. (refl, refl)) (λ m. (refl, refl)))
-    where
-      P : Given → Type 0
-      P given = (given .woken ≡ 0) × (given .slot .queue ≡ s .queue)
+    -- where nobody waits nobody is woken
+    pub give-alone : length (s .queue) < 1 → let given = giveStep s caller place in (given .woken ≡ 0) × (given .slot .queue ≡ s .queue)
+    unfolding passStep
+    give-alone h =
+        subst P (sym (gives ∙ if-not-le 1 (length (s .queue)) _ _ h)) (choose-cases P _ _ _ (λ m. (refl, refl)) (λ m. (refl, refl)))
+      where
+        P : Given → Type 0
+        P given = (given .woken ≡ 0) × (given .slot .queue ≡ s .queue)
 
 -- who has 0 after a flush had it before
 pub flush-grants-none : (t : Tables) (caller id i : ℕ) → nthTask (flush t caller id .tables) i .answer ≡ 0 → nthTask t i .answer ≡ 0

@@ -7,11 +7,11 @@ use Rattle.laws.specs.Rows.{tabulate, rows}
 use Rattle.rules.specs.declared.Call.{Call}
 use Rattle.rules.specs.declared.Call.the-variants.{Start, Obtain}
 use Rattle.rules.specs.declared.Answer.{Answer}
-use Rattle.rules.specs.Machine.{Tables, unstarted, next, mostUrgent}
+use Rattle.rules.specs.Machine.{Tables, unstarted, lendsTo, leastOf, workingWith, urgency, next, mostUrgent}
 use Rattle.rules.specs.Agreement.{occurs, sizesFit, numbersFit, answersFit, liveNamed, attributesAllowed, waitersQueued, queuesWait}
-use Rattle.rules.specs.Agreement.{queuesOrdered, queuedAtZero, binariesRight, othersRight, maximaRight, readyAtRest, freeSlotsClear}
+use Rattle.rules.specs.Agreement.{queuedAtZero, binariesRight, othersRight, maximaRight, readyAtRest, freeSlotsClear}
 use Rattle.rules.specs.Agreement.{readySequenced, sequenceReady, agrees}
-use Rattle.rules.specs.Semaphore.{waitOf, ahead, placeOf, takeStep, giveStep, passStep, flushStep}
+use Rattle.rules.specs.Semaphore.{waitOf, leastPlace, servedPlace, ahead, arranged, servingOrder, takeStep, giveStep, passStep, flushStep}
 use Rattle.rules.specs.Calls.{wakeAll, startRefusal, started, start, firstFree, createRefusal, newSemaphore, create, firstNamed, ident}
 use Rattle.rules.specs.Calls.{deleteRefusal, delete, without, obtainRefusal, obtain, releaseRefusal, release, flushRefusal, flush}
 use Rattle.rules.specs.Calls.{ticked, stillWaiting, tickedSlot, timedOut, tick, perform, step}
@@ -47,9 +47,9 @@ expected = map (λ l. l .answer)
 
 -- the answers, the last answer and the last tables of a run from the machine not yet started; to unfold one is to unfold all rules
 unfoldable pub answersOf : List Request → List Answer
-unfolding choose all those tabulate rows next mostUrgent occurs sizesFit numbersFit answersFit liveNamed attributesAllowed waitersQueued queuesWait
-    queuesOrdered queuedAtZero binariesRight othersRight maximaRight readyAtRest freeSlotsClear readySequenced sequenceReady agrees
-    waitOf ahead placeOf takeStep giveStep passStep
+unfolding choose all those tabulate rows lendsTo leastOf workingWith urgency next mostUrgent occurs sizesFit numbersFit answersFit liveNamed attributesAllowed waitersQueued queuesWait
+    queuedAtZero binariesRight othersRight maximaRight readyAtRest freeSlotsClear readySequenced sequenceReady agrees
+    waitOf leastPlace servedPlace ahead arranged servingOrder takeStep giveStep passStep
     flushStep wakeAll startRefusal started start firstFree createRefusal newSemaphore create firstNamed ident deleteRefusal delete without obtainRefusal obtain
     releaseRefusal release flushRefusal flush ticked stillWaiting tickedSlot timedOut tick perform step after answers
 answersOf rs = answers unstarted rs

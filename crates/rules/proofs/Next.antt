@@ -1,4 +1,4 @@
--- The scan of the sequence for the next task finds what request 1 says: the first of the least priority number.
+-- The scan of the sequence for the next task finds what request 1 says: the first of the least working priority.
 use mathlib.Core.Path.{_≡_, refl, sym, subst, ap, _∙_}
 use mathlib.Core.Bool.{true, false}
 use mathlib.Core.List.{List, [], _∷_}
@@ -19,6 +19,7 @@ use Rattle.rules.specs.Calls.{Outcome, perform, step}
 use Rattle.rules.specs.Fits.{callFits}
 use Rattle.rules.specs.Promises.{NextIs}
 use Rattle.rules.specs.Promises.NextIs.{nobody, somebody}
+use Rattle.rules.proofs.Working.{working-most}
 use Rattle.rules.proofs.Invariants.Lists.{bit-yes, bit-no, bit-true, occurs-cons, occurs-none, occurs-at}
 use Rattle.rules.proofs.Invariants.Facts.{Facts}
 use Rattle.rules.proofs.Invariants.FromTests.{agrees-facts}
@@ -78,29 +79,29 @@ module _ (u : ℕ → ℕ) (x : ℕ) (xs : List ℕ) where
   no-better {p = p} h (stays e f) = stays e (at-most p h f)
   no-better h (finds f l) = finds (later (omega arith) f) l
 
-scan : (t : Tables) (xs : List ℕ) (best p : ℕ) → ((k : ℕ) → k < length xs → isTask t (getD xs k 0) ≡ true)
-    → Scanned (urgency t) xs best p (mostUrgent t xs best p)
+scan : (t : Tables) (u : ℕ → ℕ) (xs : List ℕ) (best p : ℕ) → ((k : ℕ) → k < length xs → isTask t (getD xs k 0) ≡ true)
+    → Scanned u xs best p (mostUrgent t u xs best p)
 unfolding mostUrgent
-scan t [] best p tasks = stays refl (λ k b. absurd (not-suc-le-zero b))
-scan t (x ∷ xs) best p tasks =
+scan t u [] best p tasks = stays refl (λ k b. absurd (not-suc-le-zero b))
+scan t u (x ∷ xs) best p tasks =
     ⊎-elim
-    (λ (e : ltb (urgency t x) p ≡ true).
-    let yes : (isTask t x and ltb (urgency t x) p) ≡ true = both-and (tasks 0 (omega arith)) e in
-    rw (if-yes x best yes, if-yes (urgency t x) p yes)
-    (better (urgency t) x xs (ltb-true _ _ e) (scan t xs x (urgency t x) (λ k b. tasks (suc k) (omega arith)))))
-    (λ (e : ltb (urgency t x) p ≡ false).
-    let no : (isTask t x and ltb (urgency t x) p) ≡ false = if-yes _ _ (tasks 0 (omega arith)) ∙ e in
-    rw (if-no x best no, if-no (urgency t x) p no)
-    (no-better (urgency t) x xs (ltb-false _ _ e) (scan t xs best p (λ k b. tasks (suc k) (omega arith)))))
-    (tested (ltb (urgency t x) p))
+    (λ (e : ltb (u x) p ≡ true).
+    let yes : (isTask t x and ltb (u x) p) ≡ true = both-and (tasks 0 (omega arith)) e in
+    rw (if-yes x best yes, if-yes (u x) p yes)
+    (better u x xs (ltb-true _ _ e) (scan t u xs x (u x) (λ k b. tasks (suc k) (omega arith)))))
+    (λ (e : ltb (u x) p ≡ false).
+    let no : (isTask t x and ltb (u x) p) ≡ false = if-yes _ _ (tasks 0 (omega arith)) ∙ e in
+    rw (if-no x best no, if-no (u x) p no)
+    (no-better u x xs (ltb-false _ _ e) (scan t u xs best p (λ k b. tasks (suc k) (omega arith)))))
+    (tested (ltb (u x) p))
 
 -- where a number stands that occurs in a list
-record Stands (q : ℕ) (xs : List ℕ) : Type 0 where
-  place : ℕ
-  inside : place < length xs
-  here : getD xs place 0 ≡ q
+pub record Stands (q : ℕ) (xs : List ℕ) : Type 0 where
+  pub place : ℕ
+  pub inside : place < length xs
+  pub here : getD xs place 0 ≡ q
 
-stands : (q : ℕ) (xs : List ℕ) → 1 ≤ occurs q xs → Stands q xs
+pub stands : (q : ℕ) (xs : List ℕ) → 1 ≤ occurs q xs → Stands q xs
 stands q [] h = absurd (omega (arith, occurs-none q))
 stands q (x ∷ xs) h =
     ⊎-elim (λ (e : eqb q x ≡ true). record { place = 0; inside = omega arith; here = sym (eqb-true q x e) })
@@ -118,10 +119,11 @@ module _ (t : Tables) (f : Facts t) where
   standing r e = stands r (t .ready) (omega (arith, f .ready r, bit-yes _ e))
 
   in-range : (r : ℕ) → isTask t r ≡ true → urgency t r ≤ maxPriority
+  unfolding urgency
   in-range r e =
       let low : 1 ≤ r = leb-true _ _ (and-both _ _ e .0) in
       let high : r ≤ length (t .tasks) = leb-true _ _ (and-both _ _ e .1) in
-      f .urgent (pred r) (omega arith) .1
+      omega (arith, working-most t (length (t .tasks)) r, f .urgent (pred r) (omega arith) .1)
 
   concluded : {q : ℕ} → Scanned (urgency t) (t .ready) 0 (suc maxPriority) q → NextIs t q
   concluded (stays e above) =
@@ -143,7 +145,7 @@ pub next-is : (t : Tables) → Agrees t → NextIs t (next t)
 unfolding next
 next-is t a =
     let f = agrees-facts t a in
-    concluded t f (scan t (t .ready) 0 (suc maxPriority) (λ k b. and-both _ _ (entry t f k b) .0))
+    concluded t f (scan t (urgency t) (t .ready) 0 (suc maxPriority) (λ k b. and-both _ _ (entry t f k b) .0))
 
 -- ---- the next task that a call answers is that of the tables it leaves
 

@@ -54,9 +54,9 @@ module _ (t : Tables) where
   unfolding choose isIn given obtainRefusal
   obtains caller id wait = search choose-in depth 12
 
-  gives : (s : Slot) (caller id : ℕ) → isIn (giveStep s caller .status) (given (Release caller id)) ≡ true
+  gives : (s : Slot) (caller place id : ℕ) → isIn (giveStep s caller place .status) (given (Release caller id)) ≡ true
   unfolding choose isIn given giveStep passStep
-  gives s caller id = search given-in depth 12
+  gives s caller place id = search given-in depth 12
 
   releases : (caller id : ℕ) → isIn (releaseRefusal t caller id) (given (Release caller id)) ≡ true
   unfolding choose isIn given releaseRefusal

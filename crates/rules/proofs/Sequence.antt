@@ -7,7 +7,7 @@ use Prim.Native.Nat.{ℕ, zero, suc, pred, _+_, _≤_, _<_}
 use native.Mathlib.Omega.{arith}
 use native.Mathlib.Nat.{not-suc-le-zero}
 use lib.Dec.{leb, eqb}
-use lib.ListN.{length, getD, take, length-set, length-map}
+use lib.ListN.{length, getD, length-set, length-map}
 use lib.Seq.{getD-set-same, getD-set-other}
 use borrow.Author.Tests.{eqb-true, eqb-false, eq-eqb, leb-true, leb-false, le-leb, lt-leb}
 use Rattle.laws.specs.Choose.{choose, bit, _and_, _or_, isnt}
@@ -18,11 +18,11 @@ use Rattle.rules.specs.declared.Task.{Task}
 use Rattle.rules.specs.declared.Wait.{Wait}
 use Rattle.rules.specs.declared.Call.{Call}
 use Rattle.rules.specs.declared.Call.the-variants.{Start, Create, Ident, Delete, Obtain, Release, Flush, Tick}
-use Rattle.rules.specs.Machine.{Slot, Tables, noTask, slotOf, putSlot, taskOf, waits, isLive, urgency, slotNamed}
+use Rattle.rules.specs.Machine.{Slot, Tables, noTask, slotOf, putSlot, taskOf, waits, isLive, slotNamed}
 use Rattle.rules.specs.Agreement.{Agrees, agrees, isReadyTask, occurs}
-use Rattle.rules.specs.Semaphore.{placeOf, Taken, takeStep, Given, giveStep, passStep}
+use Rattle.rules.specs.Semaphore.{Taken, takeStep, Given, giveStep, passStep}
 use Rattle.rules.specs.Calls.{Outcome, answered, refused, unless, wake, wakeAll, upTo, startRefusal, started, start, createRefusal, create}
-use Rattle.rules.specs.Calls.{firstNamed, ident, deleteRefusal, delete, without, beginWait, blocked, obtainRefusal, obtain, releaseRefusal, release}
+use Rattle.rules.specs.Calls.{firstNamed, ident, deleteRefusal, delete, without, beginWait, blocked, obtainRefusal, obtain, giveOf, releaseRefusal, release}
 use Rattle.rules.specs.Calls.{flushRefusal, flush, expires, timedOut, tick, perform, step}
 use Rattle.rules.specs.Promises.{joining, becomesReady, sequenceAfter}
 use Rattle.rules.proofs.Invariants.Lists.{bit-yes, bit-no, bit-most, bit-true, bit-same, occurs-none, occurs-cons, occurs-append, occurs-empty, timed-at}
@@ -97,11 +97,6 @@ empty-of : (xs : List ℕ) → ((q : ℕ) → occurs q xs ≡ 0) → xs ≡ []
 empty-of [] f = refl
 empty-of (x ∷ xs) f = absurd (omega (arith, head-occurs x xs, f x))
 
--- the first of a queue
-first-taken : (qs : List ℕ) → 1 ≤ length qs → take 1 qs ≡ getD qs 0 0 ∷ []
-first-taken [] h = absurd (not-suc-le-zero h)
-first-taken (x ∷ xs) h = refl
-
 -- ---- who joins
 
 -- a task stands in the sequence once if it is ready, else not at all
@@ -147,17 +142,18 @@ module _ (t u : Tables) (before : Sequenced t) (after : Sequenced u) (call : Cal
       joins [] (e ∙ sym (append-nil (t .ready)))
       (those-none (λ q. leb 1 (occurs q [])) (joining t call u) (λ x h. lt-leb 1 (occurs x []) (omega (arith, occurs-none x))))
 
--- a release wakes nobody, or the first of the queue
-pub wakes-first : (s : Slot) (caller : ℕ) → let q = giveStep s caller .woken in (q ≡ 0 → ⊥) → (1 ≤ length (s .queue)) × (q ≡ getD (s .queue) 0 0)
+-- a release wakes nobody, or the waiter at that place
+pub wakes-served : (s : Slot) (caller place : ℕ) → let q = giveStep s caller place .woken in
+    (q ≡ 0 → ⊥) → (1 ≤ length (s .queue)) × (q ≡ getD (s .queue) place 0)
 unfolding giveStep passStep
-wakes-first s caller =
+wakes-served s caller place =
     choose-cases P _ _ _ (λ e n. absurd (n refl))
     (λ e. choose-cases P _ _ _ (λ e n. absurd (n refl))
     (λ e. choose-cases P _ _ _ (λ e n. (leb-true 1 _ e, refl))
     (λ e. choose-cases P _ _ _ (λ e n. absurd (n refl)) (λ e n. absurd (n refl)))))
   where
     P : Given → Type 0
-    P given = (given .woken ≡ 0 → ⊥) → (1 ≤ length (s .queue)) × (given .woken ≡ getD (s .queue) 0 0)
+    P given = (given .woken ≡ 0 → ⊥) → (1 ≤ length (s .queue)) × (given .woken ≡ getD (s .queue) place 0)
 
 -- ---- the calls
 
@@ -243,17 +239,17 @@ module _ (t : Tables) (f : Facts t) where
       unless-right (Release caller id) (releaseRefusal t caller id) _
       (λ e. choose-cases P (eqb (given .woken) 0) held (wake held (given .woken) 0) (λ none z. unmoved-right _ _ (f .ready) refl)
       (λ some z.
-      let first = wakes-first (slotOf t (slotNamed t id)) caller (eqb-false (given .woken) 0 some) in
+      let served = wakes-served (slotOf t (slotNamed t id)) caller _ (eqb-false (given .woken) 0 some) in
       record {
         ordered = joins t (wake held (given .woken) 0) (f .ready) z (Release caller id) (given .woken ∷ []) refl
-            (rw (first .1, first-taken (slotOf t (slotNamed t id) .queue) (first .0)) (those-joining _));
+            (rw (served .1) (those-joining _));
       }) (passed _ _ e (release-kept t caller id f)))
     where
       P : Tables → Type 0
       P u = Sequenced u → Right t (Release caller id) (answered 0 0 u)
 
       given : Given
-      given = giveStep (slotOf t (slotNamed t id)) caller
+      given = giveOf t (slotOf t (slotNamed t id)) caller
 
       held : Tables
       held = putSlot t (slotNamed t id) (given .slot)
@@ -296,7 +292,7 @@ module _ (t : Tables) (f : Facts t) where
       (λ w. unmoved-right _ _ (f .ready) refl))
     where
       taken : Taken
-      taken = takeStep (slotOf t (slotNamed t id)) caller (placeOf (urgency t) (slotOf t (slotNamed t id)) caller) wait
+      taken = takeStep (slotOf t (slotNamed t id)) caller wait
 
       waiting : (c : ℕ) → Caller t c
           → Right t (Obtain caller id wait) (answered 100 0 (beginWait (putSlot t (slotNamed t id) (taken .slot)) c (blocked (taskOf t c) id wait)))
@@ -317,7 +313,7 @@ module _ (t : Tables) (f : Facts t) where
   perform-right Tick priorities = tick-right
 
 -- the sequence after a call is those that were ready before and still are, in their old order, and then those that it made ready: at a delete and a
--- flush in queue order, at a release the first of the queue, at a start and a tick by task number
+-- flush in the order of serving, at a release the waiter served, at a start and a tick by task number
 pub ready-order : (t : Tables) (call : Call) (priorities : List ℕ) → Agrees t → let u = step t call priorities .tables in u .ready ≡ sequenceAfter t call u
 unfolding step
 ready-order t call priorities a =

@@ -1,17 +1,18 @@
--- Document 01, with the sequence of ready tasks of request 1 and the maxima of request 4: when tables agree, a test for each clause.
+-- Document 01, with the sequence of ready tasks of request 1 and the maxima of request 4: when tables agree, a test for each clause. The clause on the order
+-- of queues was dropped by request 8.
 -- That the lent memory has its layout's length, and that everything beyond N, S, a queue's length and the sequence's is 0, is said of the bytes:
 -- `isLaid` of crates/tables/specs/Layout.antt.
 use mathlib.Core.Path.{_≡_}
 use mathlib.Core.Bool.{Bool, true}
 use mathlib.Core.List.{List, [], _∷_}
-use Prim.Native.Nat.{ℕ, suc, pred, _+_, _%_}
+use Prim.Native.Nat.{ℕ, suc, _+_, _%_}
 use lib.Dec.{leb, eqb}
 use lib.ListN.{length, getD}
 use Rattle.laws.specs.Choose.{_and_, _or_, isnt, when, bit}
 use Rattle.laws.specs.All.{all}
 use Rattle.rules.specs.declared.Task.{Task}
-use Rattle.rules.specs.Numbers.{maxTasks, maxSlots, maxPriority, maxGeneration, maxNumber, within, allowed, byPriority, isBinary, isSimple, allowedCount}
-use Rattle.rules.specs.Machine.{Slot, Tables, taskOf, slotOf, isTask, waits, isLive, idOf, names, urgency}
+use Rattle.rules.specs.Numbers.{maxTasks, maxSlots, maxPriority, maxGeneration, maxNumber, within, allowed, isBinary, isSimple, allowedCount}
+use Rattle.rules.specs.Machine.{Slot, Tables, taskOf, slotOf, isTask, waits, isLive, idOf, names}
 
 -- a test of each task and its number, of each slot and its number, of each live slot and its number
 abbrev pub eachTask : Tables → (ℕ → Task → Bool) → Bool
@@ -75,10 +76,6 @@ isNamedRight s = leb 1 (s .generation) and isnt (eqb (s .name) 0)
 abbrev pub allWaitOn : Tables → ℕ → List ℕ → Bool
 allWaitOn t id queue = all (length queue) (λ k. isWaiter t id (getD queue k 0))
 
--- a queue is in order of priority number
-abbrev pub isOrdered : Tables → List ℕ → Bool
-isOrdered t queue = all (pred (length queue)) (λ k. leb (urgency t (getD queue k 0)) (urgency t (getD queue (suc k) 0)))
-
 abbrev pub isZeroWhereQueued : Slot → Bool
 isZeroWhereQueued s = when (leb 1 (length (s .queue))) (eqb (s .count) 0)
 
@@ -129,10 +126,6 @@ waitersQueued t = eachTask t (λ q v. when (waits v) (isQueuedOnce t q (v .await
 unfoldable pub queuesWait : Tables → Bool
 queuesWait t = eachLive t (λ n s. allWaitOn t (idOf n s) (s .queue))
 
--- a queue with PRIORITY is in order of priority number
-unfoldable pub queuesOrdered : Tables → Bool
-queuesOrdered t = eachLive t (λ n s. when (byPriority (s .attributes)) (isOrdered t (s .queue)))
-
 -- a non-empty queue means count 0
 unfoldable pub queuedAtZero : Tables → Bool
 queuedAtZero t = eachLive t (λ n s. isZeroWhereQueued s)
@@ -169,7 +162,6 @@ pub record Agrees (t : Tables) : Type 0 where
   pub attributed : attributesAllowed t ≡ true
   pub waiters : waitersQueued t ≡ true
   pub queues : queuesWait t ≡ true
-  pub ordered : queuesOrdered t ≡ true
   pub atZero : queuedAtZero t ≡ true
   pub owned : binariesRight t ≡ true
   pub unowned : othersRight t ≡ true
@@ -183,5 +175,5 @@ pub record Agrees (t : Tables) : Type 0 where
 unfoldable pub agrees : Tables → Bool
 agrees t =
     sizesFit t and numbersFit t and answersFit t and liveNamed t and attributesAllowed t and waitersQueued t and queuesWait t
-    and queuesOrdered t and queuedAtZero t and binariesRight t and othersRight t and maximaRight t and readyAtRest t
+    and queuedAtZero t and binariesRight t and othersRight t and maximaRight t and readyAtRest t
     and freeSlotsClear t and readySequenced t and sequenceReady t

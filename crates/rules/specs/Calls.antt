@@ -1,5 +1,5 @@
--- Document 01, with the sequence of ready tasks of request 1 and the maxima of request 4: the eight calls, step by step, and the whole step with the test
--- for 25.
+-- Document 01, with the sequence of ready tasks of request 1, the maxima of request 4 and the working priorities of request 8: the eight calls, step by
+-- step, and the whole step with the test for 25.
 -- Checks give a status, or 0 for no refusal.
 -- The numbers of a call are those of 32 bits, which `callFits` of Fits.antt says; the definitions do not depend on it, that agreement is kept does.
 use mathlib.Core.Bool.{Bool}
@@ -21,7 +21,7 @@ use Rattle.rules.specs.Numbers.{unsatisfied, incorrectState, calledFromI
 use Rattle.rules.specs.Machine.{Slot, Tables, freeSlot, withReady, taskOf, slotOf, putTask, putSlot, waits, isLive}
 use Rattle.rules.specs.Machine.{urgency, idOf, names, slotNamed, next}
 use Rattle.rules.specs.Agreement.{agrees}
-use Rattle.rules.specs.Semaphore.{ticksOf, placeOf, requeued, takeStep, giveStep, flushStep}
+use Rattle.rules.specs.Semaphore.{ticksOf, servedPlace, servingOrder, requeued, takeStep, Given, giveStep, flushStep}
 
 pub record Outcome : Type 0 where
   pub answer : Answer
@@ -57,7 +57,7 @@ readied v answer = record { priority = v .priority; answer = answer; awaited = 0
 abbrev pub wake : Tables → ℕ → ℕ → Tables
 wake t q answer = withReady (putTask t q (readied (taskOf t q) answer)) (t .ready ++ q ∷ [])
 
--- the waiters are woken in queue order
+-- the waiters of a list are woken in its order
 unfoldable pub wakeAll : Tables → List ℕ → ℕ → Tables
 wakeAll t [] answer = t
 wakeAll t (q ∷ qs) answer = wakeAll (wake t q answer) qs answer
@@ -150,7 +150,7 @@ looked t name =
     let n = firstNamed name (t .slots) 1 in
     choose (eqb name 0) 0 (choose (eqb n 0) (length (t .slots)) n)
 
--- ---- delete: 18, 4, 14, then 4, 12
+-- ---- delete: 18, 4, 14, then 4, 12; the working priorities are those before the call
 
 unfoldable pub deleteRefusal : Tables → ℕ → ℕ → ℕ
 deleteRefusal t caller id =
@@ -164,7 +164,7 @@ delete t caller id =
     let n = slotNamed t id in
     let s = slotOf t n in
     unless (deleteRefusal t caller id) t
-    (answered successful 0 (wakeAll (putSlot t n (freeSlot (s .generation))) (s .queue) objectWasDeleted))
+    (answered successful 0 (wakeAll (putSlot t n (freeSlot (s .generation))) (servingOrder (urgency t) s) objectWasDeleted))
 
 -- ---- obtain: 18, 4, 14, then 4, 13
 
@@ -186,14 +186,14 @@ obtainRefusal t caller id wait =
     let s = slotOf t (slotNamed t id) in
     taskOnly t caller
     (choose (names t id)
-    (choose (eqb (takeStep s caller (placeOf (urgency t) s caller) wait .status) unsatisfied) unsatisfied 0)
+    (choose (eqb (takeStep s caller wait .status) unsatisfied) unsatisfied 0)
     invalidId)
 
 unfoldable pub obtain : Tables → ℕ → ℕ → Wait → Outcome
 obtain t caller id wait =
     let n = slotNamed t id in
     let s = slotOf t n in
-    let taken = takeStep s caller (placeOf (urgency t) s caller) wait in
+    let taken = takeStep s caller wait in
     let held = putSlot t n (taken .slot) in
     unless (obtainRefusal t caller id wait) t
     (choose (eqb (taken .status) waiting)
@@ -202,20 +202,24 @@ obtain t caller id wait =
 
 -- ---- release: 4, 14, then 4, 23, 13
 
+-- with PRIORITY the working priorities before the call say who is served
+abbrev pub giveOf : Tables → Slot → ℕ → Given
+giveOf t s caller = giveStep s caller (servedPlace (urgency t) s)
+
 unfoldable pub releaseRefusal : Tables → ℕ → ℕ → ℕ
 releaseRefusal t caller id =
     anyCaller t caller
-    (choose (names t id) (giveStep (slotOf t (slotNamed t id)) caller .status) invalidId)
+    (choose (names t id) (giveOf t (slotOf t (slotNamed t id)) caller .status) invalidId)
 
 unfoldable pub release : Tables → ℕ → ℕ → Outcome
 release t caller id =
     let n = slotNamed t id in
-    let given = giveStep (slotOf t n) caller in
+    let given = giveOf t (slotOf t n) caller in
     let held = putSlot t n (given .slot) in
     unless (releaseRefusal t caller id) t
     (answered successful 0 (choose (eqb (given .woken) 0) held (wake held (given .woken) successful)))
 
--- ---- flush: 4, 14, then 4
+-- ---- flush: 4, 14, then 4; the working priorities are those before the call
 
 unfoldable pub flushRefusal : Tables → ℕ → ℕ → ℕ
 flushRefusal t caller id = anyCaller t caller (choose (names t id) 0 invalidId)
@@ -225,7 +229,7 @@ flush t caller id =
     let n = slotNamed t id in
     let s = slotOf t n in
     unless (flushRefusal t caller id) t
-    (answered successful 0 (wakeAll (putSlot t n (flushStep s)) (s .queue) unsatisfied))
+    (answered successful 0 (wakeAll (putSlot t n (flushStep s)) (servingOrder (urgency t) s) unsatisfied))
 
 -- ---- tick
 

@@ -1,4 +1,4 @@
--- Document 01: limits, status numbers and attributes.
+-- Document 01, with the attributes of request 8: limits, status numbers and attributes.
 use Prim.Native.Nat.{ℕ}
 use mathlib.Core.Bool.{Bool}
 use lib.Dec.{leb, eqb}
@@ -87,16 +87,21 @@ standardLimit = 500
 abbrev pub noTimeout : ℕ
 noTimeout = 4294967295
 
--- attributes that create allows: 4 is PRIORITY (else FIFO); 16 is binary, 32 simple binary, neither counting
+-- attributes that create allows: 4 is PRIORITY (else FIFO); 16 is binary, 32 simple binary, neither counting;
+-- request 8: 64 is inheritance, with both 16 and 4 only
 abbrev pub allowed : ℕ → Bool
-allowed a = eqb a 0 or eqb a 4 or eqb a 16 or eqb a 20 or eqb a 32 or eqb a 36
+allowed a = eqb a 0 or eqb a 4 or eqb a 16 or eqb a 20 or eqb a 32 or eqb a 36 or eqb a 84
 
 abbrev pub byPriority : ℕ → Bool
-byPriority a = eqb a 4 or eqb a 20 or eqb a 36
+byPriority a = eqb a 4 or eqb a 20 or eqb a 36 or eqb a 84
 
 -- binary with owner
 abbrev pub isBinary : ℕ → Bool
-isBinary a = eqb a 16 or eqb a 20
+isBinary a = eqb a 16 or eqb a 20 or eqb a 84
+
+-- binary with owner, PRIORITY and inheritance
+abbrev pub inherits : ℕ → Bool
+inherits a = eqb a 84
 
 -- simple binary
 abbrev pub isSimple : ℕ → Bool

@@ -1,10 +1,11 @@
--- Document 01: what holds of every call's answer; request 1: the next task, and the sequence after every call; request 6: how long a wait goes on.
+-- Document 01: what holds of every call's answer; request 1: the next task, and the sequence after every call; request 6: how long a wait goes on; request 8:
+-- whom a task lends to by a chain, and who is served.
 use mathlib.Core.Path.{_≡_}
 use mathlib.Core.Bool.{Bool, true, false}
 use mathlib.Core.List.{List, [], _∷_, _++_}
-use Prim.Native.Nat.{ℕ, _+_, _≤_, _<_}
+use Prim.Native.Nat.{ℕ, zero, suc, _+_, _≤_, _<_}
 use lib.Dec.{eqb}
-use lib.ListN.{length, getD, take}
+use lib.ListN.{length, getD}
 use Rattle.laws.specs.Choose.{choose, bit, _and_, _or_, isnt}
 use Rattle.laws.specs.All.{those}
 use Rattle.rules.specs.declared.Call.{Call}
@@ -13,8 +14,9 @@ use Rattle.rules.specs.declared.Call.the-variants.{Start, Create, Ident,
 use Rattle.rules.specs.Numbers.{maxGeneration, successful, invalidName, invalidId, tooMany, invalidNumber, notDefined}
 use Rattle.rules.specs.Numbers.{resourceInUse, unsatisfied, incorrectState, calledFromIsr, invalidPriority, notOwnerOfResource, internalError}
 use Rattle.rules.specs.Numbers.{waiting}
-use Rattle.rules.specs.Machine.{Tables, taskOf, slotOf, waits, isLive, urgency, slotNamed, next}
+use Rattle.rules.specs.Machine.{Tables, taskOf, slotOf, waits, isLive, slotNamed, lendsTo, urgency, next}
 use Rattle.rules.specs.Agreement.{isReadyTask}
+use Rattle.rules.specs.Semaphore.{servedPlace, servingOrder}
 use Rattle.rules.specs.Calls.{Outcome, upTo}
 use Rattle.rules.specs.Runs.{Request, stepOf}
 
@@ -80,7 +82,7 @@ pub record SomeGives (call : Call) (status : ℕ) : Type 0 where
 
 -- ---- the next task, and the sequence of ready tasks
 
--- q is a ready task of the least priority number, and of these the first in the sequence
+-- q is a ready task of the least working priority, and of these the first in the sequence
 pub record MostUrgent (t : Tables) (q : ℕ) : Type 0 where
   pub ready : isReadyTask t q ≡ true
   pub least : (r : ℕ) → isReadyTask t r ≡ true → urgency t q ≤ urgency t r
@@ -94,16 +96,16 @@ pub data NextIs (t : Tables) (q : ℕ) : Type 0 where
   nobody : q ≡ 0 → ((r : ℕ) → isReadyTask t r ≡ false) → NextIs t q
   somebody : MostUrgent t q → NextIs t q
 
--- who may join the sequence at a call, in which order, from tables t to u: at a delete and a flush the semaphore's queue, at a release the first of it,
--- at a start and a tick all tasks by their numbers, at the other calls nobody
+-- who may join the sequence at a call, in which order, from tables t to u: at a delete and a flush the semaphore's queue in the order of serving, at a
+-- release the waiter served, at a start and a tick all tasks by their numbers, at the other calls nobody
 unfoldable pub joining : Tables → Call → Tables → List ℕ
 joining t (Start slots) u = upTo (length (u .tasks))
 joining t (Create caller name count attributes maximum) u = []
 joining t (Ident name) u = []
-joining t (Delete caller id) u = slotOf t (slotNamed t id) .queue
+joining t (Delete caller id) u = servingOrder (urgency t) (slotOf t (slotNamed t id))
 joining t (Obtain caller id wait) u = []
-joining t (Release caller id) u = take 1 (slotOf t (slotNamed t id) .queue)
-joining t (Flush caller id) u = slotOf t (slotNamed t id) .queue
+joining t (Release caller id) u = getD (slotOf t (slotNamed t id) .queue) (servedPlace (urgency t) (slotOf t (slotNamed t id))) 0 ∷ []
+joining t (Flush caller id) u = servingOrder (urgency t) (slotOf t (slotNamed t id))
 joining t Tick u = upTo (length (u .tasks))
 
 -- q was not a ready task, and is one now
@@ -113,6 +115,28 @@ becomesReady t u q = isReadyTask u q and isnt (isReadyTask t q)
 -- the sequence that a call leaves: those that were ready before and still are, in their old order, and then those that it made ready
 unfoldable pub sequenceAfter : Tables → Call → Tables → List ℕ
 sequenceAfter t call u = those (isReadyTask u) (t .ready) ++ those (becomesReady t u) (joining t call u)
+
+-- ---- working priorities
+
+-- r stands behind this task: the owner that so many links lead to from r, each an inheritance semaphore that the one before waits on; 0 where the chain ends
+unfoldable pub behind : Tables → ℕ → ℕ → ℕ
+behind t r zero = r
+behind t r (suc links) = lendsTo t (behind t r links)
+
+-- p is the least number among q's own and those of all tasks behind it, by a chain of any length
+pub record LeastBehind (t : Tables) (q p : ℕ) : Type 0 where
+  pub least : (r links : ℕ) → behind t r links ≡ q → p ≤ taskOf t r .priority
+  -- a task that has it, q itself where there are no links
+  pub task : ℕ
+  pub links : ℕ
+  pub chain : behind t task links ≡ q
+  pub has : taskOf t task .priority ≡ p
+
+-- the place in a queue of the first of the least number
+pub record FirstOfLeast (u : ℕ → ℕ) (queue : List ℕ) (place : ℕ) : Type 0 where
+  pub inside : place < length queue
+  pub least : (k : ℕ) → k < length queue → u (getD queue place 0) ≤ u (getD queue k 0)
+  pub first : (k : ℕ) → k < place → u (getD queue place 0) < u (getD queue k 0)
 
 -- ---- how long a wait goes on
 

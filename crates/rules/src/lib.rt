@@ -5,7 +5,7 @@ ghost use mathlib.Core.List.{List, _∷_};
 ghost use Prim.Native.Nat.{ℕ};
 ghost use lib.ListN.{length};
 ghost use Rattle.rules.specs.Numbers.{allowed, byPriority, isBinary, isSimple, classMaximum, allowedCount};
-ghost use Rattle.rules.specs.Machine.{Tables, isTask, urgency, mostUrgent};
+ghost use Rattle.rules.specs.Machine.{Tables, isTask, mostUrgent};
 ghost use Rattle.rules.specs.Semaphore.{waitOf};
 
 // Status numbers: those of the RTEMS Classic headers, and our own 100.
@@ -126,6 +126,9 @@ pub struct Answer {
     pub next: u32,
 }
 
+// The attributes of a semaphore with inheritance: binary with owner, PRIORITY and 64.
+pub const INHERITANCE: u32 = 84;
+
 // How to wait, from the options and the timeout of an obtain.
 pub fn wait_of(options: u32, timeout: u32) -> Wait
     ensures { λ r. ⌜ r ≡ waitOf options timeout ⌝ }
@@ -161,7 +164,10 @@ pub fn is_allowed(attributes: u32) -> bool
     if attributes == 32 {
         return true;
     }
-    attributes == 36
+    if attributes == 36 {
+        return true;
+    }
+    attributes == INHERITANCE
 }
 
 // PRIORITY, else FIFO.
@@ -174,7 +180,10 @@ pub fn is_by_priority(attributes: u32) -> bool
     if attributes == 20 {
         return true;
     }
-    attributes == 36
+    if attributes == 36 {
+        return true;
+    }
+    attributes == INHERITANCE
 }
 
 // Binary with owner.
@@ -184,7 +193,10 @@ pub fn is_binary(attributes: u32) -> bool
     if attributes == 16 {
         return true;
     }
-    attributes == 20
+    if attributes == 20 {
+        return true;
+    }
+    attributes == INHERITANCE
 }
 
 // Simple binary.
@@ -226,16 +238,16 @@ pub fn is_count_allowed(count: u32, attributes: u32, maximum: u32) -> bool
 // A number above every priority.
 pub const ABOVE_ALL: u32 = 256;
 
-// The first task of the least priority number among those seen so far, 0 for none, and that number.
+// The first task of the least number among those seen so far, 0 for none, and that number.
 pub struct Best {
     pub task: u32,
     pub priority: u32,
 }
 
-// The best so far and task q, who follows in the sequence, of so many tasks. A number that is no task's is passed over.
+// The best so far and task q, who follows in the sequence, of so many tasks, by the working priority that is given. A number that is no task's is passed over.
 pub fn better(best: Best, tasks: usize, q: u32, priority: u32) -> Best
-    ensures { λ r. ⌜ ((t : Tables) (qs : List ℕ) → length (t .tasks) ≡ tasks → (isTask t q ≡ true → urgency t q ≡ priority)
-        → mostUrgent t qs (r .task) (r .priority) ≡ mostUrgent t (q ∷ qs) (best .task) (best .priority)) ⌝ }
+    ensures { λ r. ⌜ ((t : Tables) (u : ℕ → ℕ) (qs : List ℕ) → length (t .tasks) ≡ tasks → (isTask t q ≡ true → u q ≡ priority)
+        → mostUrgent t u qs (r .task) (r .priority) ≡ mostUrgent t u (q ∷ qs) (best .task) (best .priority)) ⌝ }
 {
     if q == 0 {
         return best;

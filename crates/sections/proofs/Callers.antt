@@ -2,7 +2,7 @@
 use mathlib.Core.Path.{_≡_, refl, sym, subst, ap, _∙_}
 use mathlib.Core.Bool.{true, false}
 use mathlib.Core.Logic.{⊎-elim, _≢_}
-use Prim.Native.Nat.{ℕ, zero, suc, _≤_}
+use Prim.Native.Nat.{ℕ, zero, suc, _≤_, _<_}
 use native.Mathlib.Omega.{arith}
 use native.Mathlib.Decide.{ℕ-discrete}
 use lib.Dec.{leb, eqb}
@@ -16,10 +16,11 @@ use Rattle.rules.specs.declared.Wait.{Wait}
 use Rattle.rules.specs.Numbers.{isBinary, maxNumber}
 use Rattle.rules.specs.Machine.{Slot, Tables, noTask, freeSlot, slotOf, putSlot, waits, isLive, idOf, names, slotNamed, urgency}
 use Rattle.rules.specs.Agreement.{occurs}
-use Rattle.rules.specs.Semaphore.{handed, ownedBy, polls, placeOf, Taken, takeStep, Given, giveStep, passStep}
+use Rattle.rules.specs.Semaphore.{handed, ownedBy, polls, servedPlace, Taken, takeStep, Given, giveStep, passStep}
 use Rattle.rules.specs.Calls.{Outcome, answered, refused, readied, beginWait, blocked, wake, callerRefusal, anyCaller, taskOnly}
-use Rattle.rules.specs.Calls.{obtainRefusal, obtain, releaseRefusal, release}
+use Rattle.rules.specs.Calls.{obtainRefusal, obtain, giveOf, releaseRefusal, release}
 use Rattle.rules.proofs.Invariants.Lists.{occurs-at, Updated, set-updated, updated-cases}
+use Rattle.rules.proofs.Serving.{served-within}
 use Rattle.rules.proofs.Invariants.Facts.{nthTask, nthSlot, Unheld, Held, Facts, live-within}
 use Rattle.rules.proofs.Invariants.Links.{nowhere, place-of-id}
 use Rattle.rules.proofs.Invariants.PartsKept.{below}
@@ -77,7 +78,7 @@ module _ (t : Tables) (c x : ℕ) (wait : Wait) where
         now : getD (set (t .tasks) c (blocked (nthTask t c) x wait)) c noTask ≡ blocked (nthTask t c) x wait
         now = getD-set-same (t .tasks) c (blocked (nthTask t c) x wait) noTask (who .last)
 
-    take-leads : Leads (takeStep (nthSlot t j) (suc c) (placeOf (urgency t) (nthSlot t j) (suc c)) wait)
+    take-leads : Leads (takeStep (nthSlot t j) (suc c) wait)
     unfolding takeStep
     take-leads =
         choose-cases Leads (leb 1 (nthSlot t j .count)) _ _ (λ e. took _ refl refl (λ b n. (if-yes _ _ b, if-yes _ _ b)))
@@ -100,7 +101,7 @@ module _ (t : Tables) (c x : ℕ) (wait : Wait) where
       (λ z. refusing refl (eqb-false refusal 0 z) unlike)
     where
       taken : ℕ → Taken
-      taken n = takeStep (slotOf t n) (suc c) (placeOf (urgency t) (slotOf t n) (suc c)) wait
+      taken n = takeStep (slotOf t n) (suc c) wait
 
       rest : ℕ → ℕ
       rest n = choose (names t x) (choose (eqb (taken n .status) 13) 13 0) 4
@@ -146,39 +147,40 @@ module _ (t : Tables) (f : Facts t) (c j : ℕ) (l : isLive (nthSlot t j) ≡ tr
         | no d ↦ (λ o. (d, sym (ap (λ (z : Slot). z .owner) (getD-set-other (t .slots) j k s (freeSlot 0) d)) ∙ o))
       ]
 
-  handed-on : (q : ℕ) → q ≡ getD (nthSlot t j .queue) 0 0 → 1 ≤ length (nthSlot t j .queue)
-      → Gives (record { status = 0; slot = handed (nthSlot t j) q; woken = q })
-  handed-on zero is h =
+  -- to the waiter at a place of the queue, who is a task
+  handed-on : (place : ℕ) → place < length (nthSlot t j .queue) → (q : ℕ) → getD (nthSlot t j .queue) place 0 ≡ q
+      → Gives (record { status = 0; slot = handed (nthSlot t j) place; woken = q })
+  handed-on place h zero is =
       absurd (omega (
         arith,
         f .slots j .whenLive l .entries,
-        subst (λ (q : ℕ). 1 ≤ occurs q (nthSlot t j .queue)) (sym is)
-            (occurs-at (nthSlot t j .queue) 0 h),
+        subst (λ (q : ℕ). 1 ≤ occurs q (nthSlot t j .queue)) is (occurs-at (nthSlot t j .queue) place h),
       ))
-  handed-on (suc w) is h = (
+  handed-on place h (suc w) is = (
     refl,
     subst (λ (z : Tables). Released t z c j) (sym (if-no _ _ (ne-eqb (suc w) 0 (omega arith))))
         (record {
           ready = subst (λ (v : Task). waits v ≡ false) (sym (getD-set-other (t .tasks) w c (readied (nthTask t w) 0) noTask apart)) ready;
-          left = owner-left (handed (nthSlot t j) (suc w)) (λ e. let s : suc w ≡ suc c = sym (if-yes _ _ b) ∙ e in apart (omega arith));
+          left = owner-left (handed (nthSlot t j) place) (λ e. let s : suc w ≡ suc c = sym (if-yes _ _ b ∙ is) ∙ e in apart (omega arith));
         }),
   )
     where
       -- the owner does not stand in the queue
       apart : c ≢ w
       apart e =
-          let there : 1 ≤ occurs (suc w) (nthSlot t j .queue) = subst (λ (q : ℕ). 1 ≤ occurs q (nthSlot t j .queue)) (sym is)
-          (occurs-at (nthSlot t j .queue) 0 h) in
+          let there : 1 ≤ occurs (suc w) (nthSlot t j .queue) = subst (λ (q : ℕ). 1 ≤ occurs q (nthSlot t j .queue)) is
+          (occurs-at (nthSlot t j .queue) place h) in
           omega (arith, subst (λ (k : ℕ). occurs (suc k) (nthSlot t j .queue) ≡ 0) e (nowhere (nthTask t) (nthSlot t) (below t f) (f .linked) c j ready l))
 
-  give-gives : Gives (giveStep (nthSlot t j) (suc c))
+  give-gives : Gives (giveOf t (nthSlot t j) (suc c))
   unfolding giveStep passStep
   give-gives =
       choose-cases Gives (isBinary (nthSlot t j .attributes) and isnt (ownedBy (nthSlot t j) (suc c))) _ _
       (λ e. never own (isnt-own (and-both _ _ e .1)))
       (λ e. choose-cases Gives (isBinary (nthSlot t j .attributes) and leb 2 (nthSlot t j .nest)) _ _
       (λ n. let two : 2 ≤ nthSlot t j .nest = leb-true _ _ (and-both _ _ n .1) in absurd (omega (arith, holds .nest)))
-      (λ n. choose-cases Gives (leb 1 (length (nthSlot t j .queue))) _ _ (λ q. handed-on (getD (nthSlot t j .queue) 0 0) refl (leb-true _ _ q))
+      (λ n. choose-cases Gives (leb 1 (length (nthSlot t j .queue))) _ _
+      (λ q. handed-on (servedPlace (urgency t) (nthSlot t j)) (served-within (urgency t) (nthSlot t j) (leb-true _ _ q)) _ refl)
       (λ q. choose-cases Gives (eqb (nthSlot t j .count) (nthSlot t j .maximum)) _ _
       (λ m. let full : nthSlot t j .count ≡ nthSlot t j .maximum = eqb-true _ _ m in absurd
       (omega (arith, held .count, f .slots j .whenLive l .maximum .least)))
@@ -198,11 +200,11 @@ module _ (t : Tables) (f : Facts t) (c j : ℕ) (l : isLive (nthSlot t j) ≡ tr
     where
       after : ℕ → Tables
       after m =
-          let given = giveStep (slotOf t m) (suc c) in
+          let given = giveOf t (slotOf t m) (suc c) in
           choose (eqb (given .woken) 0) (putSlot t m (given .slot)) (wake (putSlot t m (given .slot)) (given .woken) 0)
 
       rest : ℕ
-      rest = choose (names t x) (giveStep (slotOf t (slotNamed t x)) (suc c) .status) 4
+      rest = choose (names t x) (giveOf t (slotOf t (slotNamed t x)) (suc c) .status) 4
 
       refusal : ℕ
       refusal = anyCaller t (suc c) rest
@@ -220,4 +222,4 @@ module _ (t : Tables) (f : Facts t) (c j : ℕ) (l : isLive (nthSlot t j) ≡ tr
       passes =
           if-no (callerRefusal t (suc c)) rest (if-yes _ _ (false-isnt _ (ne-eqb (suc c) 0 (omega arith))) ∙ if-yes _ _ (eq-eqb _ _ allowed))
           ∙ if-yes _ _ n
-          ∙ subst (λ (m : ℕ). giveStep (slotOf t m) (suc c) .status ≡ 0) (sym number) (give-gives .0)
+          ∙ subst (λ (m : ℕ). giveOf t (slotOf t m) (suc c) .status ≡ 0) (sym number) (give-gives .0)

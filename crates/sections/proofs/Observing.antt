@@ -3,7 +3,7 @@ use mathlib.Core.Path.{_≡_, refl, sym, subst, ap, _∙_}
 use mathlib.Core.Bool.{true, false}
 use mathlib.Core.List.{List, map}
 use mathlib.Core.Logic.{inl, inr, ⊎-elim, _≢_}
-use Prim.Native.Nat.{ℕ, zero, suc, pred, _≤_}
+use Prim.Native.Nat.{ℕ, zero, suc, pred, _≤_, _<_}
 use native.Mathlib.Omega.{arith}
 use native.Mathlib.Decide.{ℕ-discrete}
 use lib.Dec.{leb, eqb}
@@ -19,11 +19,12 @@ use Rattle.rules.specs.declared.Wait.{Wait}
 use Rattle.rules.specs.Numbers.{isBinary, allowed, allowedCount}
 use Rattle.rules.specs.Machine.{Slot, Tables, noTask, freeSlot, taskOf, slotOf, putSlot, waits, isLive, idOf, names, slotNamed, urgency}
 use Rattle.rules.specs.Agreement.{occurs}
-use Rattle.rules.specs.Semaphore.{handed, ownedBy, placeOf, Taken, takeStep, Given, giveStep, passStep, flushStep}
+use Rattle.rules.specs.Semaphore.{handed, ownedBy, servedPlace, servingOrder, Taken, takeStep, Given, giveStep, passStep, flushStep}
 use Rattle.rules.specs.Calls.{Outcome, answered, readied, beginWait, blocked, wake, wakeAll, startRefusal, started, start, openSlot, createRefusal}
-use Rattle.rules.specs.Calls.{newSemaphore, create, firstNamed, ident, deleteRefusal, delete, obtainRefusal, obtain, releaseRefusal, release}
+use Rattle.rules.specs.Calls.{newSemaphore, create, firstNamed, ident, deleteRefusal, delete, obtainRefusal, obtain, giveOf, releaseRefusal, release}
 use Rattle.rules.specs.Calls.{flushRefusal, flush, expires, ticked, tickedSlot, tick, perform}
 use Rattle.rules.proofs.Invariants.Lists.{occurs-at, getD-map}
+use Rattle.rules.proofs.Serving.{served-within}
 use Rattle.rules.proofs.Invariants.Facts.{nthTask, nthSlot, waitsOn, Unheld, Held, Facts, waits-within, live-within}
 use Rattle.rules.proofs.Invariants.Links.{SameWait, waits-there}
 use Rattle.rules.proofs.Invariants.PartsKept.{below}
@@ -91,7 +92,7 @@ module _ (t : Tables) (f : Facts t) (i : ℕ) where
       (ended (s .place) (s .live)) (free .0))
     where
       freed : ℕ → Tables
-      freed n = wakeAll (putSlot t n (freeSlot (slotOf t n .generation))) (slotOf t n .queue) 7
+      freed n = wakeAll (putSlot t n (freeSlot (slotOf t n .generation))) (servingOrder (urgency t) (slotOf t n)) 7
 
       ended : (j : ℕ) → isLive (nthSlot t j) ≡ true → (isBinary (nthSlot t j .attributes) and isnt (eqb (nthSlot t j .owner) 0)) ≡ false
           → Observed t (freed (suc j)) i 0
@@ -107,11 +108,11 @@ module _ (t : Tables) (f : Facts t) (i : ℕ) where
   unfolding flush flushRefusal flushStep
   flush-observed caller id =
       observed-unless t i 0 (flushRefusal t caller id)
-      (answered 0 0 (wakeAll (putSlot t (slotNamed t id) (flushStep (slotOf t (slotNamed t id)))) (slotOf t (slotNamed t id) .queue) 13))
+      (answered 0 0 (wakeAll (putSlot t (slotNamed t id) (flushStep (slotOf t (slotNamed t id)))) (servingOrder (urgency t) (slotOf t (slotNamed t id))) 13))
       (λ e.
       let named = must (names t id) 0 4 (omega arith) (any-caller t caller _ e) in
       let s = found t (f .sizes) id (named .0) in
-      subst (λ (n : ℕ). Observed t (wakeAll (putSlot t n (flushStep (slotOf t n))) (slotOf t n .queue) 13) i 0) (sym (s .number))
+      subst (λ (n : ℕ). Observed t (wakeAll (putSlot t n (flushStep (slotOf t n))) (servingOrder (urgency t) (slotOf t n)) 13) i 0) (sym (s .number))
       (observed-emptied t f (s .place) (flushStep (nthSlot t (s .place))) 13 i 0 (s .live) refl (omega arith) (λ H. watched-same _ _ refl refl refl refl refl)))
 
   -- ---- tick
@@ -144,10 +145,10 @@ module _ (t : Tables) (f : Facts t) (i : ℕ) where
   -- ---- obtain by another
 
   module _ (c : ℕ) (other : suc i ≢ c) where
-    taken-watched : {H : Type 0} (j place : ℕ) (wait : Wait) → isLive (nthSlot t j) ≡ true
-        → Watched (suc i) H (nthSlot t j) (takeStep (nthSlot t j) c place wait .slot)
+    taken-watched : {H : Type 0} (j : ℕ) (wait : Wait) → isLive (nthSlot t j) ≡ true
+        → Watched (suc i) H (nthSlot t j) (takeStep (nthSlot t j) c wait .slot)
     unfolding takeStep
-    taken-watched {H} j place wait l =
+    taken-watched {H} j wait l =
         choose-cases P _ _ _
         (λ e.
         record {
@@ -179,7 +180,7 @@ module _ (t : Tables) (f : Facts t) (i : ℕ) where
         subst (λ (n : ℕ). Observed t (outcome n .tables) i 0) (sym (s .number)) (at (s .place) (s .live) c refl (who .0 .first)))
       where
         taken : ℕ → Taken
-        taken n = takeStep (slotOf t n) c (placeOf (urgency t) (slotOf t n) c) wait
+        taken n = takeStep (slotOf t n) c wait
 
         outcome : ℕ → Outcome
         outcome n =
@@ -195,14 +196,14 @@ module _ (t : Tables) (f : Facts t) (i : ℕ) where
               size = length-set (t .tasks) (pred c) (blocked (taskOf t c) id wait);
               task = inl (same-wait (getD-set-other (t .tasks) (pred c) i (blocked (taskOf t c) id wait) noTask apart));
               slots = put-watched t (beginWait (putSlot t (suc j) (taken (suc j) .slot)) c (blocked (taskOf t c) id wait)) i j (taken (suc j) .slot)
-                  (live-within t j l) refl (taken-watched j (placeOf (urgency t) (nthSlot t j) c) wait l);
+                  (live-within t j l) refl (taken-watched j wait l);
             })
             (λ e.
             record {
               size = refl;
               task = inl (same-wait refl);
               slots = put-watched t (putSlot t (suc j) (taken (suc j) .slot)) i j (taken (suc j) .slot) (live-within t j l) refl
-                  (taken-watched j (placeOf (urgency t) (nthSlot t j) c) wait l);
+                  (taken-watched j wait l);
             })
           where
             apart : i ≢ pred c
@@ -231,17 +232,17 @@ module _ (t : Tables) (f : Facts t) (i : ℕ) where
         subst (λ (z : Tables). Observed t z i 0) (sym (if-yes _ _ refl))
         (record { size = refl; task = inl (same-wait refl); slots = put-watched t (putSlot t (suc j) s) i j s (live-within t j l) refl (w _) })
 
-    handed-on : (isBinary (nthSlot t j .attributes) and isnt (ownedBy (nthSlot t j) c)) ≡ false → (q : ℕ) → q ≡ getD (nthSlot t j .queue) 0 0
-        → 1 ≤ length (nthSlot t j .queue)
-        → Sees (record { status = 0; slot = handed (nthSlot t j) q; woken = q })
-    handed-on mine zero is h e =
+    -- to the waiter at a place of the queue, who is a task
+    handed-on : (isBinary (nthSlot t j .attributes) and isnt (ownedBy (nthSlot t j) c)) ≡ false → (place : ℕ) → place < length (nthSlot t j .queue)
+        → (q : ℕ) → getD (nthSlot t j .queue) place 0 ≡ q
+        → Sees (record { status = 0; slot = handed (nthSlot t j) place; woken = q })
+    handed-on mine place h zero is e =
         absurd (omega (
           arith,
           f .slots j .whenLive l .entries,
-          subst (λ (q : ℕ). 1 ≤ occurs q (nthSlot t j .queue)) (sym is)
-              (occurs-at (nthSlot t j .queue) 0 h),
+          subst (λ (q : ℕ). 1 ≤ occurs q (nthSlot t j .queue)) is (occurs-at (nthSlot t j .queue) place h),
         ))
-    handed-on mine (suc w) is h e =
+    handed-on mine place h (suc w) is e =
         subst (λ (z : Tables). Observed t z i (suc w)) (sym (if-no _ _ (ne-eqb (suc w) 0 (omega arith))))
         (record {
           size = length-set (t .tasks) w (readied (nthTask t w) 0);
@@ -249,29 +250,29 @@ module _ (t : Tables) (f : Facts t) (i : ℕ) where
             | yes s ↦ inr (woken s)
             | no n ↦ inl (same-wait (getD-set-other (t .tasks) w i (readied (nthTask t w) 0) noTask n))
           ];
-          slots = put-watched t t′ i j (handed (nthSlot t j) (suc w)) (live-within t j l) refl
+          slots = put-watched t t′ i j (handed (nthSlot t j) place) (live-within t j l) refl
               (record {
                 attributes = λ a m g. refl;
                 keeps = λ a b o. absurd (not-mine mine b o);
-                gains = λ a b m o. let s : suc w ≡ suc i = sym (if-yes _ _ b)
+                gains = λ a b m o. let s : suc w ≡ suc i = sym (if-yes _ _ b ∙ is)
                     ∙ o in let z : i ≡ w = omega arith in inr
                     (subst (λ (k : ℕ). waitsOn (nthTask t k) (idOf (suc j) (nthSlot t j)) ≡ true) (sym z) there, ap (λ (v : Task). v .answer) (after z));
               });
         })
       where
         t′ : Tables
-        t′ = wake (putSlot t (suc j) (handed (nthSlot t j) (suc w))) (suc w) 0
+        t′ = wake (putSlot t (suc j) (handed (nthSlot t j) place)) (suc w) 0
 
         there : waitsOn (nthTask t w) (idOf (suc j) (nthSlot t j)) ≡ true
         there = waits-there (nthTask t) (nthSlot t) (below t f) (f .linked) w j l
-            (subst (λ (q : ℕ). 1 ≤ occurs q (nthSlot t j .queue)) (sym is) (occurs-at (nthSlot t j .queue) 0 h))
+            (subst (λ (q : ℕ). 1 ≤ occurs q (nthSlot t j .queue)) is (occurs-at (nthSlot t j .queue) place h))
 
         after : i ≡ w → nthTask t′ i ≡ readied (nthTask t w) 0
         after s = subst (λ (k : ℕ). nthTask t′ k ≡ readied (nthTask t w) 0) (sym s)
             (getD-set-same (t .tasks) w (readied (nthTask t w) 0) noTask (waits-within t w (and-both _ _ there .0)))
 
-        slot-after : nthSlot t′ j ≡ handed (nthSlot t j) (suc w)
-        slot-after = getD-set-same (t .slots) j (handed (nthSlot t j) (suc w)) (freeSlot 0) (live-within t j l)
+        slot-after : nthSlot t′ j ≡ handed (nthSlot t j) place
+        slot-after = getD-set-same (t .slots) j (handed (nthSlot t j) place) (freeSlot 0) (live-within t j l)
 
         woken : i ≡ w → Woken t t′ i (suc w)
         woken s =
@@ -285,34 +286,35 @@ module _ (t : Tables) (f : Facts t) (i : ℕ) where
                     is = subst (λ (k : ℕ). nthTask t k .awaited ≡ idOf (suc j) (nthSlot t j)) (sym s) (eqb-true _ _ (and-both _ _ there .1));
                     live′ = subst (λ (x : Slot). isLive x ≡ true) (sym slot-after) l;
                     generation = ap (λ (x : Slot). x .generation) slot-after;
-                    owned = λ b. (ap (λ (x : Slot). x .owner) slot-after ∙ if-yes _ _ b ∙ ap suc (sym s), ap (λ (x : Slot). x .nest) slot-after ∙ if-yes _ _ b);
+                    owned = λ b. (ap (λ (x : Slot). x .owner) slot-after ∙ if-yes _ _ b ∙ is ∙ ap suc (sym s), ap (λ (x : Slot). x .nest) slot-after ∙ if-yes _ _ b);
                     only = ap suc (sym s);
                   };
             }
 
-    give-observed : Sees (giveStep (nthSlot t j) c)
+    give-observed : Sees (giveOf t (nthSlot t j) c)
     unfolding giveStep passStep
     give-observed =
         choose-cases Sees (isBinary (nthSlot t j .attributes) and isnt (ownedBy (nthSlot t j) c)) _ _ (λ b e. absurd (omega arith))
         (λ mine. choose-cases Sees (isBinary (nthSlot t j .attributes) and leb 2 (nthSlot t j .nest)) _ _
         (λ e. unwoken _ (λ H. record { attributes = λ a m g. refl; keeps = λ a b o. absurd (not-mine mine b o); gains = λ a b m o. inl o }))
-        (λ e. choose-cases Sees (leb 1 (length (nthSlot t j .queue))) _ _ (λ q. handed-on mine (getD (nthSlot t j .queue) 0 0) refl (leb-true _ _ q))
+        (λ e. choose-cases Sees (leb 1 (length (nthSlot t j .queue))) _ _
+        (λ q. handed-on mine (servedPlace (urgency t) (nthSlot t j)) (served-within (urgency t) (nthSlot t j) (leb-true _ _ q)) _ refl)
         (λ q. choose-cases Sees (eqb (nthSlot t j .count) (nthSlot t j .maximum)) _ _ (λ m e. absurd (omega arith))
         (λ m. unwoken _ (λ H. record { attributes = λ a m g. refl; keeps = λ a b o. absurd (not-mine mine b o); gains = λ a b m o. absurd (omega arith) })))))
 
-  release-observed : (c id : ℕ) → suc i ≢ c → Observed t (release t c id .tables) i (giveStep (slotOf t (slotNamed t id)) c .woken)
+  release-observed : (c id : ℕ) → suc i ≢ c → Observed t (release t c id .tables) i (giveOf t (slotOf t (slotNamed t id)) c .woken)
   unfolding release releaseRefusal
   release-observed c id other =
       observed-unless t i _ (releaseRefusal t c id) (answered 0 0 (after (slotNamed t id)))
       (λ e.
-      let named = must (names t id) (giveStep (slotOf t (slotNamed t id)) c .status) 4 (omega arith) (any-caller t c _ e) in
+      let named = must (names t id) (giveOf t (slotOf t (slotNamed t id)) c .status) 4 (omega arith) (any-caller t c _ e) in
       let s = found t (f .sizes) id (named .0) in
-      subst (λ (m : ℕ). giveStep (slotOf t m) c .status ≡ 0 → Observed t (after m) i (giveStep (slotOf t m) c .woken)) (sym (s .number))
+      subst (λ (m : ℕ). giveOf t (slotOf t m) c .status ≡ 0 → Observed t (after m) i (giveOf t (slotOf t m) c .woken)) (sym (s .number))
       (give-observed c other (s .place) (s .live)) (named .1))
     where
       after : ℕ → Tables
       after n =
-          let given = giveStep (slotOf t n) c in
+          let given = giveOf t (slotOf t n) c in
           choose (eqb (given .woken) 0) (putSlot t n (given .slot)) (wake (putSlot t n (given .slot)) (given .woken) 0)
 
   -- ---- every call

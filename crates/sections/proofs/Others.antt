@@ -12,11 +12,12 @@ use Rattle.rules.specs.declared.Call.{Call}
 use Rattle.rules.specs.declared.Call.the-variants.{Start, Create, Ident, Delete, Obtain, Release, Flush, Tick}
 use Rattle.rules.specs.declared.Task.{Task}
 use Rattle.rules.specs.Numbers.{isBinary}
-use Rattle.rules.specs.Machine.{Slot, Tables, freeSlot, slotOf, putSlot, waits, isLive, idOf, slotNamed}
+use Rattle.rules.specs.Machine.{Slot, Tables, freeSlot, slotOf, putSlot, waits, isLive, idOf, slotNamed, urgency}
 use Rattle.rules.specs.Agreement.{occurs}
-use Rattle.rules.specs.Semaphore.{giveStep}
-use Rattle.rules.specs.Calls.{Outcome, refused, unless, readied, wakeAll}
+use Rattle.rules.specs.Semaphore.{servingOrder}
+use Rattle.rules.specs.Calls.{Outcome, refused, unless, readied, wakeAll, giveOf}
 use Rattle.rules.proofs.Invariants.Lists.{set-updated, updated-cases}
+use Rattle.rules.proofs.Serving.{serving-occurs}
 use Rattle.rules.proofs.Invariants.Facts.{nthTask, nthSlot, waitsOn, Facts, waits-within, live-within}
 use Rattle.rules.proofs.Invariants.Links.{SameWait, waits-there}
 use Rattle.rules.proofs.Invariants.Waking.{wokenOf, wakeAll-task, wakeAll-slots, wakeAll-length}
@@ -52,7 +53,7 @@ handedTo t (Create caller name count attributes maximum) = 0
 handedTo t (Ident name) = 0
 handedTo t (Delete caller id) = 0
 handedTo t (Obtain caller id wait) = 0
-handedTo t (Release caller id) = giveStep (slotOf t (slotNamed t id)) caller .woken
+handedTo t (Release caller id) = giveOf t (slotOf t (slotNamed t id)) caller .woken
 handedTo t (Flush caller id) = 0
 handedTo t Tick = 0
 
@@ -106,7 +107,7 @@ put-watched t t′ i j s h e w k =
 -- everybody in a queue is woken with an answer other than 0
 pub observed-emptied : (t : Tables) (f : Facts t) (j : ℕ) (s : Slot) (a i to : ℕ) → isLive (nthSlot t j) ≡ true → waits (readied (nthTask t i) a) ≡ false
     → a ≢ 0
-    → ((H : Type 0) → Watched (suc i) H (nthSlot t j) s) → Observed t (wakeAll (putSlot t (suc j) s) (nthSlot t j .queue) a) i to
+    → ((H : Type 0) → Watched (suc i) H (nthSlot t j) s) → Observed t (wakeAll (putSlot t (suc j) s) (servingOrder (urgency t) (nthSlot t j)) a) i to
 observed-emptied t f j s a i to l ready d w =
     record {
       size = wakeAll-length queue (putSlot t (suc j) s) a;
@@ -115,16 +116,20 @@ observed-emptied t f j s a i to l ready d w =
     }
   where
     queue : List ℕ
-    queue = nthSlot t j .queue
+    queue = servingOrder (urgency t) (nthSlot t j)
+
+    -- the order in which they are woken holds the same tasks
+    same : (q : ℕ) → occurs q queue ≡ occurs q (nthSlot t j .queue)
+    same = serving-occurs (urgency t) (nthSlot t j)
 
     t′ : Tables
     t′ = wakeAll (putSlot t (suc j) s) queue a
 
     waiter : (k : ℕ) → 1 ≤ occurs (suc k) queue → waitsOn (nthTask t k) (idOf (suc j) (nthSlot t j)) ≡ true
-    waiter k h = waits-there (nthTask t) (nthSlot t) (below t f) (f .linked) k j l h
+    waiter k h = waits-there (nthTask t) (nthSlot t) (below t f) (f .linked) k j l (subst (λ (n : ℕ). 1 ≤ n) (same (suc k)) h)
 
     after : nthTask t′ i ≡ wokenOf queue a i (nthTask t i)
-    after = wakeAll-task queue (putSlot t (suc j) s) a i (f .slots j .whenLive l .entries) (λ k h. waits-within t k (and-both _ _ (waiter k h) .0))
+    after = wakeAll-task queue (putSlot t (suc j) s) a i (same 0 ∙ f .slots j .whenLive l .entries) (λ k h. waits-within t k (and-both _ _ (waiter k h) .0))
 
     one : nthTask t′ i ≡ wokenOf queue a i (nthTask t i) → SameWait (nthTask t i) (nthTask t′ i) ⊎ Woken t t′ i to
     one =

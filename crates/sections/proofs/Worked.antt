@@ -1,4 +1,4 @@
--- Worked examples that compute: two writers take turns, a wait times out in the middle, and the mission's story.
+-- Worked examples that compute: two writers take turns, a wait times out in the middle, the mission's story, and a section with inheritance.
 use mathlib.Core.Path.{_≡_, refl}
 use mathlib.Core.List.{List, [], _∷_, _++_}
 use Prim.Native.Nat.{ℕ}
@@ -115,6 +115,21 @@ no-address : seen made (handed (script 1 (counting 0 ∷ []) ∷ script 2 (count
     }
 unfolding seen
 no-address = refl
+
+-- while task 1 waits for the section of task 3, the next task is task 3 with inheritance and task 2 without it
+waited-for : ℕ → Answer
+unfolding seen
+waited-for attributes =
+    run (tablesOf (startWith 2 (10 ∷ 20 ∷ 30 ∷ []) ∷ ask (Create 2 77 1 attributes 1) ∷ []))
+    (handed (script 1 (counting 0 ∷ []) ∷ script 3 (counting 0 ∷ []) ∷ [])) (Turn 3 ∷ Turn 1 ∷ []) .answer
+
+inherited : waited-for 84 ≡ says 0 0 3
+unfolding waited-for
+inherited = refl
+
+not-inherited : waited-for 20 ≡ says 0 0 2
+unfolding waited-for
+not-inherited = refl
 
 -- refused before anything is run: a section on a counting semaphore, on an owned one, two scripts for one task; a turn of a task without a script;
 -- tables that do not agree

@@ -64,7 +64,7 @@ isEvent (Turn q) = true
 isEvent (Other r) = true
 isEvent NoEvent = false
 
--- 11: a section's identifier that is not a live, unowned semaphore with attributes 16 or 20
+-- 11: a section's identifier that is not, at the outset, a live, unowned semaphore with attributes 16, 20 or, since request 8, 84
 abbrev pub isGuard : Tables → ℕ → Bool
 isGuard t id = names t id and isBinary (slotOf t (id % 65536) .attributes) and eqb (slotOf t (id % 65536) .owner) 0
 

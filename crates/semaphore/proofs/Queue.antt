@@ -1,4 +1,4 @@
--- Laws of a queue kept in 32 places: a task joins, the first leaves, some are left out.
+-- Laws of a queue kept in 32 places: one leaves, some are left out.
 use mathlib.Core.Path.{_≡_, refl, sym, ap, _∙_}
 use mathlib.Core.Bool.{Bool, true, false}
 use mathlib.Core.List.{List, [], _∷_, _++_}
@@ -6,14 +6,16 @@ use Prim.Native.Nat.{ℕ, zero, suc, pred, _+_, _-_, _≤_, _<_}
 use native.Mathlib.Nat.{not-suc-le-zero, le-refl}
 use native.Mathlib.Numerals.{add-one, sub-one}
 use native.Mathlib.Omega.{arith}
-use lib.ListN.{length, getD, set, take, drop, length-append, length-take, length-drop}
-use lib.Seq.{take-all, take-suc, getD-drop}
+use lib.ListN.{length, getD, set, take, length-append, length-take}
+use lib.Dec.{ltb}
+use lib.Seq.{take-all, take-suc}
+use borrow.Author.Tests.{ltb-true, ltb-false}
 use Rattle.laws.specs.Choose.{choose}
 use Rattle.laws.proofs.Choose.{if-yes, if-no, choose-cases}
 use Rattle.laws.specs.Rows.{fit}
 use Rattle.laws.proofs.Fit.{take-fit, set-fit-next, set-fit-end}
 use Rattle.rules.specs.Machine.{Tables, taskOf}
-use Rattle.rules.specs.Semaphore.{insertAt}
+use Rattle.rules.specs.Semaphore.{removeAt}
 use Rattle.rules.specs.Calls.{expires, stillWaiting}
 use Rattle.semaphore.specs.Record.{keep, KeptIs}
 
@@ -31,93 +33,50 @@ module _ {A : Type 0} where
   pub held : (n : ℕ) (d : A) (xs : List A) (w : ℕ) → w ≡ length xs → length xs ≤ n → take w (fit n d xs) ≡ xs
   held n d xs w e h = rw e (take-fit n d xs h)
 
--- ---- a task joins
+-- ---- one leaves
 
-module _ (q : ℕ) where
-  pub insert-fit : (n m place : ℕ) (xs : List ℕ) → length xs ≤ m → place ≤ length xs → fit n 0 (insertAt place q (fit m 0 xs)) ≡ fit n 0 (insertAt place q xs)
-  unfolding fit
-  insert-fit zero m place xs h l = refl
-  insert-fit (suc n) m zero xs h l = ap (λ (r : List ℕ). q ∷ r) (fit-fit n m 0 xs h)
-  insert-fit (suc n) zero (suc place) [] h l = absurd (not-suc-le-zero l)
-  insert-fit (suc n) (suc m) (suc place) [] h l = absurd (not-suc-le-zero l)
-  insert-fit (suc n) zero (suc place) (x ∷ xs) h l = absurd (not-suc-le-zero h)
-  insert-fit (suc n) (suc m) (suc place) (x ∷ xs) h l = ap (λ (r : List ℕ). x ∷ r) (insert-fit n m place xs (omega arith) (omega arith))
-
-  pub length-insert : (place : ℕ) (xs : List ℕ) → place ≤ length xs → length (insertAt place q xs) ≡ suc (length xs)
-  length-insert zero xs h = refl
-  length-insert (suc place) [] h = absurd (not-suc-le-zero h)
-  length-insert (suc place) (x ∷ xs) h = ap suc (length-insert place xs (omega arith))
-
-  -- those behind the place stand one further
-  pub insert-behind : (place : ℕ) (xs : List ℕ) (k : ℕ) → place ≤ k → place ≤ length xs → getD (insertAt place q xs) (suc k) 0 ≡ getD xs k 0
-  insert-behind zero xs k h l = refl
-  insert-behind (suc place) [] k h l = absurd (not-suc-le-zero l)
-  insert-behind (suc place) (x ∷ xs) zero h l = absurd (not-suc-le-zero h)
-  insert-behind (suc place) (x ∷ xs) (suc k) h l = insert-behind place xs k (omega arith) (omega arith)
-
-  -- the first k + 1 of the longer queue, before the old ones from k + 1 on
-  pub shift-first : (xs : List ℕ) (place : ℕ) → place < length xs → set xs place q ≡ take (suc place) (insertAt place q xs) ++ drop (suc place) xs
-  shift-first [] place h = absurd (not-suc-le-zero h)
-  shift-first (x ∷ xs) zero h = refl
-  shift-first (x ∷ xs) (suc place) h = ap (λ (r : List ℕ). x ∷ r) (shift-first xs place (omega arith))
-
--- a list replaced from the front, one element more
-pub replace-next : (xs ys : List ℕ) (k : ℕ) → k < length xs → k < length ys → set (take k ys ++ drop k xs) k (getD ys k 0) ≡ take (suc k) ys ++ drop (suc k) xs
-replace-next [] ys k h l = absurd (not-suc-le-zero h)
-replace-next (x ∷ xs) [] k h l = absurd (not-suc-le-zero l)
-replace-next (x ∷ xs) (y ∷ ys) zero h l = refl
-replace-next (x ∷ xs) (y ∷ ys) (suc k) h l = ap (λ (r : List ℕ). y ∷ r) (replace-next xs ys k (omega arith) (omega arith))
-
-pub replace-all : (n : ℕ) (xs ys : List ℕ) → length xs ≡ n → n ≤ length ys → take n ys ++ drop n xs ≡ fit n 0 ys
+pub remove-fit : (n m place : ℕ) (xs : List ℕ) → length xs ≤ m → place < length xs → fit n 0 (removeAt place (fit m 0 xs)) ≡ fit n 0 (removeAt place xs)
 unfolding fit
-replace-all zero [] ys e h = refl
-replace-all zero (x ∷ xs) ys e h = absurd (omega arith)
-replace-all (suc n) [] ys e h = absurd (omega arith)
-replace-all (suc n) (x ∷ xs) [] e h = absurd (not-suc-le-zero h)
-replace-all (suc n) (x ∷ xs) (y ∷ ys) e h = ap (λ (r : List ℕ). y ∷ r) (replace-all n xs ys (omega arith) (omega arith))
+remove-fit n m place [] h l = absurd (not-suc-le-zero l)
+remove-fit n zero place (x ∷ xs) h l = absurd (not-suc-le-zero h)
+remove-fit n (suc m) zero (x ∷ xs) h l = fit-fit n m 0 xs (omega arith)
+remove-fit zero (suc m) (suc place) (x ∷ xs) h l = refl
+remove-fit (suc n) (suc m) (suc place) (x ∷ xs) h l = ap (λ (r : List ℕ). x ∷ r) (remove-fit n m place xs (omega arith) (omega arith))
 
--- the loop that moves the queue behind a place: how it begins, one turn, how it ends
-module _ (queue : List ℕ) (place q : ℕ) (len : length queue ≡ 32) (fits : place < 32) where
-  pub shift-begins : set queue place q ≡ take (place + 1) (insertAt place q queue) ++ drop (place + 1) queue
-  shift-begins = rw add-one (shift-first q queue place (omega arith))
+pub length-remove : (place : ℕ) (xs : List ℕ) → place < length xs → suc (length (removeAt place xs)) ≡ length xs
+length-remove place [] h = absurd (not-suc-le-zero h)
+length-remove zero (x ∷ xs) h = refl
+length-remove (suc place) (x ∷ xs) h = ap suc (length-remove place xs (omega arith))
 
-  behind : (k : ℕ) → place < k → getD queue (k - 1) 0 ≡ getD (insertAt place q queue) k 0
-  behind k h =
-      let back : suc (k - 1) ≡ k = omega arith in
-      sym (insert-behind q place queue (k - 1) (omega arith) (omega arith))
-      ∙ ap (λ (j : ℕ). getD (insertAt place q queue) j 0) back
+-- those before the place stand as they stood, those behind it one place before
+remove-before : (place k : ℕ) (xs : List ℕ) → k < place → getD (removeAt place xs) k 0 ≡ getD xs k 0
+remove-before zero k xs h = absurd (not-suc-le-zero h)
+remove-before (suc place) k [] h = refl
+remove-before (suc place) zero (x ∷ xs) h = refl
+remove-before (suc place) (suc k) (x ∷ xs) h = remove-before place k xs (omega arith)
 
-  pub shift-next : (out : List ℕ) (k : ℕ) → place < k → k < 32 → out ≡ take k (insertAt place q queue) ++ drop k queue
-      → set out k (getD queue (k - 1) 0) ≡ take (k + 1) (insertAt place q queue) ++ drop (k + 1) queue
-  shift-next out k h l e =
-      let w : length (insertAt place q queue) ≡ suc (length queue) = length-insert q place queue (omega arith) in
-      rw (e, behind k h, add-one) (replace-next queue (insertAt place q queue) k (omega arith) (omega arith))
+remove-behind : (place k : ℕ) (xs : List ℕ) → place ≤ k → getD (removeAt place xs) k 0 ≡ getD xs (suc k) 0
+remove-behind zero k [] h = refl
+remove-behind zero k (x ∷ xs) h = refl
+remove-behind (suc place) k [] h = refl
+remove-behind (suc place) zero (x ∷ xs) h = absurd (not-suc-le-zero h)
+remove-behind (suc place) (suc k) (x ∷ xs) h = remove-behind place k xs (omega arith)
 
-  pub shift-ends : (out : List ℕ) (k : ℕ) → k ≤ 32 → 32 ≤ k → out ≡ take k (insertAt place q queue) ++ drop k queue → out ≡ fit 32 0 (insertAt place q queue)
-  shift-ends out k h l e =
-      let w : length (insertAt place q queue) ≡ suc (length queue) = length-insert q place queue (omega arith) in
-      let full : k ≡ 32 = omega arith in
-      e ∙ rw full (replace-all 32 queue (insertAt place q queue) len (omega arith))
+-- the loop that moves those behind the place forward: one turn, how it ends
+module _ (queue out : List ℕ) (place k : ℕ) (len : length queue ≡ 32) (fits : place < 32) (filled : out ≡ fit 32 0 (take k (removeAt place queue))) where
+  moved : getD queue (choose (ltb k place) k (k + 1)) 0 ≡ getD (removeAt place queue) k 0
+  moved =
+      choose-cases (λ (from : ℕ). getD queue from 0 ≡ getD (removeAt place queue) k 0) (ltb k place) k (k + 1)
+      (λ e. sym (remove-before place k queue (ltb-true k place e))) (λ e. rw add-one (sym (remove-behind place k queue (ltb-false k place e))))
 
--- ---- the first leaves
+  pub remove-next : (from : ℕ) → from ≡ choose (ltb k place) k (k + 1) → k < 31
+      → set out k (getD queue from 0) ≡ fit 32 0 (take (k + 1) (removeAt place queue))
+  remove-next from e h =
+      let more : k < length (removeAt place queue) = omega (arith, length-remove place queue (omega arith)) in
+      rw (filled, e, moved, add-one) (set-fit-next 32 0 (removeAt place queue) k more)
 
-pub drop-fit : (n m : ℕ) (xs : List ℕ) → length xs ≤ m → fit n 0 (drop 1 (fit m 0 xs)) ≡ fit n 0 (drop 1 xs)
-unfolding fit
-drop-fit n zero [] h = refl
-drop-fit n zero (x ∷ xs) h = absurd (not-suc-le-zero h)
-drop-fit n (suc m) [] h = fit-fit n m 0 [] (omega arith)
-drop-fit n (suc m) (x ∷ xs) h = fit-fit n m 0 xs (omega arith)
-
--- the loop that moves each one place forward: one turn, how it ends
-module _ (queue out : List ℕ) (k : ℕ) (len : length queue ≡ 32) (filled : out ≡ fit 32 0 (take k (drop 1 queue))) where
-  pub advance-next : k < 31 → set out k (getD queue (k + 1) 0) ≡ fit 32 0 (take (k + 1) (drop 1 queue))
-  advance-next h =
-      let more : k < length (drop 1 queue) = rw length-drop (omega arith) in
-      let next : getD queue (k + 1) 0 ≡ getD (drop 1 queue) k 0 = ap (λ (j : ℕ). getD queue j 0) (omega arith) ∙ sym (getD-drop 1 queue k 0) in
-      rw (filled, next, add-one) (set-fit-next 32 0 (drop 1 queue) k more)
-
-  pub advance-ends : 31 ≤ k → out ≡ fit 32 0 (drop 1 queue)
-  advance-ends h = filled ∙ ap (fit 32 0) (take-all k (drop 1 queue) (rw length-drop (omega arith)))
+  pub remove-ends : 31 ≤ k → out ≡ fit 32 0 (removeAt place queue)
+  remove-ends h = filled ∙ ap (fit 32 0) (take-all k (removeAt place queue) (omega (arith, length-remove place queue (omega arith))))
 
 -- ---- some are left out
 

@@ -1,12 +1,13 @@
 // One slot of the tables, with its queue, as a record that is passed and returned by value.
 use rules::Wait;
 ghost use mathlib.Core.Path.{_≡_};
-ghost use Prim.Native.Nat.{ℕ, _≤_, _<_};
-ghost use lib.ListN.{length, take, drop};
-ghost use Rattle.laws.specs.Choose.{_and_};
+ghost use Prim.Native.Nat.{ℕ, _+_, _≤_, _<_};
+ghost use lib.Dec.{ltb};
+ghost use lib.ListN.{length, take};
+ghost use Rattle.laws.specs.Choose.{choose, _and_};
 ghost use Rattle.laws.specs.Rows.{fit};
 ghost use Rattle.rules.specs.Machine.{freeSlot};
-ghost use Rattle.rules.specs.Semaphore.{insertAt, ownedBy, polls, takeStep, passStep, giveStep, flushStep};
+ghost use Rattle.rules.specs.Semaphore.{removeAt, ownedBy, polls, takeStep, passStep, giveStep, flushStep};
 ghost use Rattle.rules.specs.Calls.{newSemaphore};
 ghost use Rattle.rules.specs.Numbers.{isBinary};
 ghost use Rattle.semaphore.specs.Record.{slotFrom, recordOf, withCount, withQueue, Padded, TasksOnly};
@@ -63,29 +64,28 @@ fn polls(wait: Wait) -> bool
     }
 }
 
-// The queue with task q at `place`, and those behind it one place further.
-fn inserted(queue: [u32; 32], place: usize, q: u32) -> [u32; 32]
-    requires { ⌜ place < 32 ⌝ }
-    ensures { λ r. ⌜ r ≡ fit 32 0 (insertAt place q queue) ⌝ }
+// Where in a queue stands who has place k once the one at `place` has left.
+fn moves_from(k: usize, place: usize) -> usize
+    requires { ⌜ k < 31 ⌝ }
+    ensures near { λ r. ⌜ r ≤ k + 1 ⌝ }
+    ensures from { λ r. ⌜ r ≡ choose (ltb k place) k (k + 1) ⌝ }
 {
-    let mut out = queue;
-    out[place] = q;
-    let mut k = place + 1;
-    while k < 32 {
-        out[k] = queue[k - 1];
-        k += 1;
+    if k < place {
+        return k;
     }
-    out
+    k + 1
 }
 
-// The queue without its first.
-fn advanced(queue: [u32; 32]) -> [u32; 32]
-    ensures { λ r. ⌜ r ≡ fit 32 0 (drop 1 queue) ⌝ }
+// The queue without the one at `place`.
+fn removed(queue: [u32; 32], place: usize) -> [u32; 32]
+    requires { ⌜ place < 32 ⌝ }
+    ensures { λ r. ⌜ r ≡ fit 32 0 (removeAt place queue) ⌝ }
 {
     let mut out = [0u32; 32];
     let mut k = 0;
     while k < 31 {
-        out[k] = queue[k + 1];
+        let from = moves_from(k, place);
+        out[k] = queue[from];
         k += 1;
     }
     out
@@ -204,10 +204,10 @@ impl Semaphore {
         true
     }
 
-    // One semaphore's step of an obtain; a caller that waits joins the queue at `place`.
-    pub fn take(self, caller: u32, place: usize, wait: Wait) -> Taken
-        requires { ⌜ Padded self × (self .waiters < 32) × (place ≤ self .waiters) ⌝ }
-        ensures { λ r. ⌜ TakenIs r (takeStep (slotFrom self) caller place wait) ⌝ }
+    // One semaphore's step of an obtain; a caller that waits joins the queue at the rear.
+    pub fn take(self, caller: u32, wait: Wait) -> Taken
+        requires { ⌜ Padded self × (self .waiters < 32) ⌝ }
+        ensures { λ r. ⌜ TakenIs r (takeStep (slotFrom self) caller wait) ⌝ }
     {
         if self.count >= 1 {
             if rules::is_binary(self.attributes) {
@@ -242,8 +242,9 @@ impl Semaphore {
                 semaphore: self,
             };
         }
-        let queue = self.queue;
-        let longer = inserted(queue, place, caller);
+        let rear = self.waiters as usize;
+        let mut longer = self.queue;
+        longer[rear] = caller;
         let joined = self.with_queue(self.waiters + 1, longer);
         Taken {
             status: rules::WAITING,
@@ -251,27 +252,27 @@ impl Semaphore {
         }
     }
 
-    // What a release does to a semaphore that the caller may give and does not hold twice.
-    fn passed_on(self) -> Given
-        requires { ⌜ Padded self × (self .count ≤ self .maximum) ⌝ }
-        ensures { λ r. ⌜ GivenIs r (passStep (slotFrom self)) ⌝ }
+    // What a release does to a semaphore that the caller may give and does not hold twice; the waiter at `place` is served.
+    fn passed_on(self, place: usize) -> Given
+        requires { ⌜ Padded self × (self .count ≤ self .maximum) × (1 ≤ self .waiters → place < self .waiters) ⌝ }
+        ensures { λ r. ⌜ GivenIs r (passStep (slotFrom self) place) ⌝ }
     {
         if self.waiters >= 1 {
             let queue = self.queue;
-            let first = queue[0];
-            let rest = advanced(queue);
+            let served = queue[place];
+            let rest = removed(queue, place);
             let shorter = self.with_queue(self.waiters - 1, rest);
             if rules::is_binary(self.attributes) {
-                let handed = shorter.with_count(self.count, first, 1);
+                let handed = shorter.with_count(self.count, served, 1);
                 return Given {
                     status: rules::SUCCESSFUL,
-                    woken: first,
+                    woken: served,
                     semaphore: handed,
                 };
             }
             return Given {
                 status: rules::SUCCESSFUL,
-                woken: first,
+                woken: served,
                 semaphore: shorter,
             };
         }
@@ -290,13 +291,13 @@ impl Semaphore {
         }
     }
 
-    // One semaphore's step of a release.
-    pub fn give(self, caller: u32) -> Given
-        requires { ⌜ Padded self × (self .count ≤ self .maximum) ⌝ }
-        ensures { λ r. ⌜ GivenIs r (giveStep (slotFrom self) caller) ⌝ }
+    // One semaphore's step of a release, which serves the waiter at `place`.
+    pub fn give(self, caller: u32, place: usize) -> Given
+        requires { ⌜ Padded self × (self .count ≤ self .maximum) × (1 ≤ self .waiters → place < self .waiters) ⌝ }
+        ensures { λ r. ⌜ GivenIs r (giveStep (slotFrom self) caller place) ⌝ }
     {
         if !rules::is_binary(self.attributes) {
-            return self.passed_on();
+            return self.passed_on(place);
         }
         if !self.is_held_by(caller) {
             return Given {
@@ -313,7 +314,7 @@ impl Semaphore {
                 semaphore: inner,
             };
         }
-        self.passed_on()
+        self.passed_on(place)
     }
 
     // One semaphore's step of a flush.

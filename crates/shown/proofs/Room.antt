@@ -8,7 +8,7 @@ use lib.ListN.{length, length-append}
 use Rattle.laws.specs.Choose.{choose}
 use Rattle.laws.proofs.Choose.{choose-cases}
 use Rattle.rules.specs.declared.Task.{Task}
-use Rattle.rules.specs.Numbers.{timeout, objectWasDeleted, unsatisfied, byPriority, isBinary, isSimple}
+use Rattle.rules.specs.Numbers.{timeout, objectWasDeleted, unsatisfied, byPriority, isBinary, inherits, isSimple}
 use Rattle.rules.specs.Machine.{Slot, Tables, slotOf, taskOf, waits, isLive}
 use Rattle.rules.specs.Agreement.{Agrees}
 use Rattle.calls.proofs.Agreeing.{tasks-few, slots-few, ready-few, queue-few}
@@ -20,7 +20,7 @@ use Rattle.shown.specs.Shown.{shownText, showRoom}
 use Rattle.shown.specs.Shown.{tasksPhrase, slotsPhrase, nextPhrase, taskPhrase, priorityPhrase, readyPhrase, timedOutPhrase, deletedPhrase}
 use Rattle.shown.specs.Shown.{flushedPhrase, waitsPhrase, idPhrase, closePhrase, forEverPhrase, ticksPhrase, sequencePhrase, nobodyPhrase}
 use Rattle.shown.specs.Shown.{semaphorePhrase, namePhrase, binaryPhrase, simplePhrase, countingPhrase, fifoPhrase, orderPhrase, noOwnerPhrase}
-use Rattle.shown.specs.Shown.{ownerPhrase, nestPhrase, maximumPhrase, waitingPhrase}
+use Rattle.shown.specs.Shown.{inheritancePhrase, ownerPhrase, nestPhrase, maximumPhrase, waitingPhrase}
 
 infixl 20 _behind_
 -- a text of at most k bytes
@@ -93,9 +93,11 @@ class-room a =
     either (isBinary a) (phrase binaryPhrase 15 (omega arith))
     (either (isSimple a) (phrase simplePhrase 15 (omega arith)) (phrase countingPhrase 15 (omega arith)))
 
-order-room : (a : ℕ) → Short 18 (orderText a)
+order-room : (a : ℕ) → Short 31 (orderText a)
 unfolding orderText
-order-room a = either (byPriority a) (phrase orderPhrase 18 (omega arith)) (phrase fifoPhrase 18 (omega arith))
+order-room a =
+    either (inherits a) (phrase inheritancePhrase 31 (omega arith))
+    (either (byPriority a) (phrase orderPhrase 31 (omega arith)) (phrase fifoPhrase 31 (omega arith)))
 
 owner-room : (s : Slot) → Short 35 (ownerText s)
 unfolding ownerText
@@ -111,7 +113,7 @@ maximum-room s =
     either (isBinary (s .attributes)) (phrase [] 20 (omega arith))
     (either (isSimple (s .attributes)) (phrase [] 20 (omega arith)) (phrase maximumPhrase 10 (omega arith) behind number _))
 
-kind-room : (n : ℕ) (s : Slot) → Short 100 (kindText n s)
+kind-room : (n : ℕ) (s : Slot) → Short 113 (kindText n s)
 unfolding kindText
 kind-room n s =
     (phrase semaphorePhrase 10 (omega arith) behind number _) behind (phrase namePhrase 7 (omega arith) behind number _)
@@ -124,10 +126,10 @@ holders-room : (s : Slot) → length (s .queue) ≤ 32 → Short 398 (holdersTex
 unfolding holdersText
 holders-room s h = owner-room s behind phrase waitingPhrase 10 (omega arith) behind tasks-room (s .queue) h behind phrase newline 1 (omega arith)
 
-slot-room : (t : Tables) → Agrees t → (n : ℕ) → Short 498 (slotLine t n)
+slot-room : (t : Tables) → Agrees t → (n : ℕ) → Short 511 (slotLine t n)
 unfolding slotLine semaphoreLine
 slot-room t a n =
-    either (isLive (slotOf t n)) (kind-room n (slotOf t n) behind holders-room (slotOf t n) (queue-few t a (pred n))) (phrase [] 498 (omega arith))
+    either (isLive (slotOf t n)) (kind-room n (slotOf t n) behind holders-room (slotOf t n) (queue-few t a (pred n))) (phrase [] 511 (omega arith))
 
 -- ---- all of it
 
@@ -140,9 +142,9 @@ module _ (t : Tables) (a : Agrees t) where
   unfolding sequenceLine
   sequence-room = phrase sequencePhrase 25 (omega arith) behind tasks-room (t .ready) (ready-few t a) behind phrase newline 1 (omega arith)
 
-  slot-lines : Short (498 * length (t .slots)) (slotLines t)
+  slot-lines : Short (511 * length (t .slots)) (slotLines t)
   unfolding slotLines
-  slot-lines = record { most = rows-room 498 (length (t .slots)) (λ i. slotLine t (suc i)) (λ i. slot-room t a (suc i) .most) }
+  slot-lines = record { most = rows-room 511 (length (t .slots)) (λ i. slotLine t (suc i)) (λ i. slot-room t a (suc i) .most) }
 
   pub shown-room : length (shownText t) ≤ showRoom
   unfolding shownText

@@ -1,11 +1,12 @@
--- Machines as the definition shows them: a binary semaphore that is held, a wait for ever beside a free slot, and a machine that has not started.
+-- Machines as the definition shows them: a binary semaphore that is held, a wait for ever beside a free slot, a task that inherits, and a machine that
+-- has not started.
 use mathlib.Core.Path.{_≡_, refl}
 use mathlib.Core.List.{List, [], _∷_, _++_}
 use Prim.Native.Nat.{ℕ}
 use Rattle.laws.specs.Choose.{choose}
 use Rattle.laws.specs.Rows.{tabulate, rows}
 use Rattle.rules.specs.declared.Task.{Task}
-use Rattle.rules.specs.Machine.{Tables, freeSlot, unstarted, mostUrgent, next}
+use Rattle.rules.specs.Machine.{Tables, freeSlot, unstarted, lendsTo, leastOf, workingWith, urgency, mostUrgent, next}
 use Rattle.line.specs.Print.{digitsBefore, decimal}
 use Rattle.report.specs.Report.{spaced}
 use Rattle.shown.specs.Shown.{tasksText, countsLine, endingText, ticksText, waitText, stateText, taskLine, taskLines, sequenceLine, classText}
@@ -72,6 +73,36 @@ waitedText =
     111 ∷ 117 ∷ 110 ∷ 116 ∷ 105 ∷ 110 ∷ 103 ∷ 44 ∷ 32 ∷ 80 ∷ 82 ∷ 73 ∷ 79 ∷ 82 ∷ 73 ∷ 84 ∷ 89 ∷ 58 ∷ 32 ∷ 99 ∷ 111 ∷ 117 ∷ 110 ∷ 116 ∷ 32 ∷ 48 ∷ 44 ∷ 32 ∷
     109 ∷ 97 ∷ 120 ∷ 105 ∷ 109 ∷ 117 ∷ 109 ∷ 32 ∷ 49 ∷ 50 ∷ 44 ∷ 32 ∷ 119 ∷ 97 ∷ 105 ∷ 116 ∷ 105 ∷ 110 ∷ 103 ∷ 58 ∷ 32 ∷ 49 ∷ 10 ∷ [])
 
+-- task 3 waits on the inheritance semaphore that task 1 owns, so that task 1 comes before task 2
+abbrev lent : Tables
+lent =
+    record {
+      tasks = task 9 0 0 0 ∷ task 5 0 0 0 ∷ task 3 100 65537 0 ∷ [];
+      slots = record { generation = 1; live = 1; name = 7; attributes = 84; count = 0; owner = 1; nest = 1; maximum = 1; queue = 3 ∷ [] } ∷ [];
+      ready = 2 ∷ 1 ∷ [];
+    }
+
+abbrev lentText : List ℕ
+lentText =
+    -- tasks 3, slots 1, next task 1
+    (116 ∷ 97 ∷ 115 ∷ 107 ∷ 115 ∷ 32 ∷ 51 ∷ 44 ∷ 32 ∷ 115 ∷ 108 ∷ 111 ∷ 116 ∷ 115 ∷ 32 ∷ 49 ∷ 44 ∷ 32 ∷ 110 ∷ 101 ∷ 120 ∷ 116 ∷ 32 ∷ 116 ∷ 97 ∷ 115 ∷ 107 ∷ 32
+    ∷ 49 ∷ 10 ∷ [])
+    -- task 1, priority 9: ready
+    ++ (116 ∷ 97 ∷ 115 ∷ 107 ∷ 32 ∷ 49 ∷ 44 ∷ 32 ∷ 112 ∷ 114 ∷ 105 ∷ 111 ∷ 114 ∷ 105 ∷ 116 ∷ 121 ∷ 32 ∷ 57 ∷ 58 ∷ 32 ∷ 114 ∷ 101 ∷ 97 ∷ 100 ∷ 121 ∷ 10 ∷ [])
+    -- task 2, priority 5: ready
+    ++ (116 ∷ 97 ∷ 115 ∷ 107 ∷ 32 ∷ 50 ∷ 44 ∷ 32 ∷ 112 ∷ 114 ∷ 105 ∷ 111 ∷ 114 ∷ 105 ∷ 116 ∷ 121 ∷ 32 ∷ 53 ∷ 58 ∷ 32 ∷ 114 ∷ 101 ∷ 97 ∷ 100 ∷ 121 ∷ 10 ∷ [])
+    -- task 3, priority 3: waits on name 7 (65537), for ever
+    ++ (116 ∷ 97 ∷ 115 ∷ 107 ∷ 32 ∷ 51 ∷ 44 ∷ 32 ∷ 112 ∷ 114 ∷ 105 ∷ 111 ∷ 114 ∷ 105 ∷ 116 ∷ 121 ∷ 32 ∷ 51 ∷ 58 ∷ 32 ∷ 119 ∷ 97 ∷ 105 ∷ 116 ∷ 115 ∷ 32 ∷ 111 ∷
+    110 ∷ 32 ∷ 110 ∷ 97 ∷ 109 ∷ 101 ∷ 32 ∷ 55 ∷ 32 ∷ 40 ∷ 54 ∷ 53 ∷ 53 ∷ 51 ∷ 55 ∷ 41 ∷ 44 ∷ 32 ∷ 102 ∷ 111 ∷ 114 ∷ 32 ∷ 101 ∷ 118 ∷ 101 ∷ 114 ∷ 10 ∷ [])
+    -- ready, the longest first: 2 1
+    ++ (114 ∷ 101 ∷ 97 ∷ 100 ∷ 121 ∷ 44 ∷ 32 ∷ 116 ∷ 104 ∷ 101 ∷ 32 ∷ 108 ∷ 111 ∷ 110 ∷ 103 ∷ 101 ∷ 115 ∷ 116 ∷ 32 ∷ 102 ∷ 105 ∷ 114 ∷ 115 ∷ 116 ∷ 58 ∷ 32 ∷
+    50 ∷ 32 ∷ 49 ∷ 10 ∷ [])
+    -- semaphore 65537, name 7, binary, PRIORITY, inheritance: count 0, owner 1, nest 1, waiting: 3
+    ++ (115 ∷ 101 ∷ 109 ∷ 97 ∷ 112 ∷ 104 ∷ 111 ∷ 114 ∷ 101 ∷ 32 ∷ 54 ∷ 53 ∷ 53 ∷ 51 ∷ 55 ∷ 44 ∷ 32 ∷ 110 ∷ 97 ∷ 109 ∷ 101 ∷ 32 ∷ 55 ∷ 44 ∷ 32 ∷ 98 ∷ 105 ∷ 110
+    ∷ 97 ∷ 114 ∷ 121 ∷ 44 ∷ 32 ∷ 80 ∷ 82 ∷ 73 ∷ 79 ∷ 82 ∷ 73 ∷ 84 ∷ 89 ∷ 44 ∷ 32 ∷ 105 ∷ 110 ∷ 104 ∷ 101 ∷ 114 ∷ 105 ∷ 116 ∷ 97 ∷ 110 ∷ 99 ∷ 101 ∷ 58 ∷ 32 ∷
+    99 ∷ 111 ∷ 117 ∷ 110 ∷ 116 ∷ 32 ∷ 48 ∷ 44 ∷ 32 ∷ 111 ∷ 119 ∷ 110 ∷ 101 ∷ 114 ∷ 32 ∷ 49 ∷ 44 ∷ 32 ∷ 110 ∷ 101 ∷ 115 ∷ 116 ∷ 32 ∷ 49 ∷ 44 ∷ 32 ∷ 119 ∷ 97 ∷
+    105 ∷ 116 ∷ 105 ∷ 110 ∷ 103 ∷ 58 ∷ 32 ∷ 51 ∷ 10 ∷ [])
+
 abbrev unstartedText : List ℕ
 unstartedText =
     -- tasks 0, slots 0, next task 0
@@ -81,7 +112,8 @@ unstartedText =
     ++ (114 ∷ 101 ∷ 97 ∷ 100 ∷ 121 ∷ 44 ∷ 32 ∷ 116 ∷ 104 ∷ 101 ∷ 32 ∷ 108 ∷ 111 ∷ 110 ∷ 103 ∷ 101 ∷ 115 ∷ 116 ∷ 32 ∷ 102 ∷ 105 ∷ 114 ∷ 115 ∷ 116 ∷ 58 ∷ 32
     ∷ 110 ∷ 111 ∷ 98 ∷ 111 ∷ 100 ∷ 121 ∷ 10 ∷ [])
 
-worked : (shownText held ≡ heldText) × (shownText waited ≡ waitedText) × (shownText unstarted ≡ unstartedText)
+worked : (shownText held ≡ heldText) × (shownText waited ≡ waitedText) × (shownText lent ≡ lentText) × (shownText unstarted ≡ unstartedText)
 unfolding shownText countsLine taskLines taskLine stateText waitText endingText ticksText sequenceLine slotLines slotLine
-    semaphoreLine kindText holdersText classText orderText maximumText ownerText tasksText spaced digitsBefore decimal mostUrgent next choose tabulate rows
-worked = (refl, refl, refl)
+    semaphoreLine kindText holdersText classText orderText maximumText ownerText tasksText spaced digitsBefore decimal lendsTo leastOf workingWith urgency
+    mostUrgent next choose tabulate rows
+worked = (refl, refl, refl, refl)

@@ -6,7 +6,7 @@ use lib.ListN.{length}
 use Rattle.laws.specs.Choose.{choose}
 use Rattle.laws.specs.Rows.{tabulate, rows}
 use Rattle.rules.specs.declared.Task.{Task}
-use Rattle.rules.specs.Numbers.{timeout, objectWasDeleted, unsatisfied, byPriority, isBinary, isSimple}
+use Rattle.rules.specs.Numbers.{timeout, objectWasDeleted, unsatisfied, byPriority, isBinary, inherits, isSimple}
 use Rattle.rules.specs.Machine.{Slot, Tables, taskOf, slotOf, waits, isLive, idOf, next}
 use Rattle.line.specs.Print.{decimal}
 use Rattle.report.specs.Report.{spaced}
@@ -113,6 +113,12 @@ fifoPhrase = 44 ∷ 32 ∷ 70 ∷ 73 ∷ 70 ∷ 79 ∷ 58 ∷ 32 ∷ 99 ∷ 111 
 abbrev pub orderPhrase : List ℕ
 orderPhrase = 44 ∷ 32 ∷ 80 ∷ 82 ∷ 73 ∷ 79 ∷ 82 ∷ 73 ∷ 84 ∷ 89 ∷ 58 ∷ 32 ∷ 99 ∷ 111 ∷ 117 ∷ 110 ∷ 116 ∷ 32 ∷ []
 
+-- ", PRIORITY, inheritance: count "
+abbrev pub inheritancePhrase : List ℕ
+inheritancePhrase =
+    44 ∷ 32 ∷ 80 ∷ 82 ∷ 73 ∷ 79 ∷ 82 ∷ 73 ∷ 84 ∷ 89 ∷ 44 ∷ 32 ∷ 105 ∷ 110 ∷ 104 ∷ 101 ∷ 114 ∷ 105 ∷ 116 ∷ 97 ∷ 110 ∷ 99 ∷ 101 ∷ 58
+    ∷ 32 ∷ 99 ∷ 111 ∷ 117 ∷ 110 ∷ 116 ∷ 32 ∷ []
+
 -- ", no owner"
 abbrev pub noOwnerPhrase : List ℕ
 noOwnerPhrase = 44 ∷ 32 ∷ 110 ∷ 111 ∷ 32 ∷ 111 ∷ 119 ∷ 110 ∷ 101 ∷ 114 ∷ []
@@ -183,7 +189,7 @@ unfoldable pub classText : ℕ → List ℕ
 classText a = choose (isBinary a) binaryPhrase (choose (isSimple a) simplePhrase countingPhrase)
 
 unfoldable pub orderText : ℕ → List ℕ
-orderText a = choose (byPriority a) orderPhrase fifoPhrase
+orderText a = choose (inherits a) inheritancePhrase (choose (byPriority a) orderPhrase fifoPhrase)
 
 -- of a counting semaphore alone: that of both binary classes is 1
 unfoldable pub maximumText : Slot → List ℕ
@@ -221,6 +227,6 @@ slotLines t = rows (tabulate (length (t .slots)) (λ i. slotLine t (suc i)))
 unfoldable pub shownText : Tables → List ℕ
 shownText t = countsLine t ++ taskLines t ++ sequenceLine t ++ slotLines t
 
--- bytes that are enough for any machine that agrees: the counts take 57 at most, a task 99, the sequence 378 and a semaphore 478
+-- bytes that are enough for any machine that agrees: the counts take 57 at most, a task 99, the sequence 378 and a semaphore 511
 abbrev pub showRoom : ℕ
 showRoom = 36864

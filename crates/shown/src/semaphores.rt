@@ -24,6 +24,9 @@ fn put_class(out: &mut [u8], at: usize, attributes: u32) -> usize
 fn put_order(out: &mut [u8], at: usize, attributes: u32) -> usize
     ensures { λ r. ⌜ Puts at (orderText attributes) (now (out .entry)) (now (out .exit)) r ⌝ }
 {
+    if attributes == rules::INHERITANCE {
+        return writing::put(out, at, b", PRIORITY, inheritance: count ");
+    }
     if rules::is_by_priority(attributes) {
         return writing::put(out, at, b", PRIORITY: count ");
     }

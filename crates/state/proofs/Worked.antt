@@ -9,7 +9,7 @@ use Rattle.laws.specs.All.{all}
 use Rattle.laws.specs.Rows.{tabulate, rows}
 use Rattle.words.specs.Words.{bytesOf, wordAt}
 use Rattle.rules.specs.Machine.{Tables, unstarted, freeSlot}
-use Rattle.rules.specs.Agreement.{occurs, sizesFit, numbersFit, answersFit, liveNamed, attributesAllowed, waitersQueued, queuesWait, queuesOrdered}
+use Rattle.rules.specs.Agreement.{occurs, sizesFit, numbersFit, answersFit, liveNamed, attributesAllowed, waitersQueued, queuesWait}
 use Rattle.rules.specs.Agreement.{queuedAtZero, binariesRight, othersRight, maximaRight, readyAtRest, freeSlotsClear, readySequenced, sequenceReady, agrees}
 use Rattle.state.specs.File.{firstEdition, secondEdition, listed, stateNumbers, editionFile, stateFile}
 use Rattle.state.specs.Reading.{slotNumbers, slotsIn, tasksFrom, slotsFrom, tablesIn, same, isState}
@@ -68,7 +68,7 @@ maximum-of-file = (refl, refl, refl, refl)
 
 -- to unfold this is to unfold the whole test
 unfoldable stateTest : List ℕ → Bool
-unfolding choose all tabulate rows occurs sizesFit numbersFit answersFit liveNamed attributesAllowed waitersQueued queuesWait queuesOrdered queuedAtZero
+unfolding choose all tabulate rows occurs sizesFit numbersFit answersFit liveNamed attributesAllowed waitersQueued queuesWait queuedAtZero
     binariesRight othersRight maximaRight readyAtRest freeSlotsClear readySequenced sequenceReady agrees
     bytesOf wordAt listed stateNumbers editionFile slotNumbers slotsIn tasksFrom slotsFrom tablesIn same isState
 stateTest bs = isState bs

@@ -3,6 +3,7 @@ pub mod WaitsInBytes
 pub mod Theorems
 pub mod StateFile
 pub mod Search
+pub mod Timeouts
 pub mod BesideTheList
 pub mod Itron
 pub mod Accounts

@@ -1,7 +1,7 @@
 -- What is promised, in the order of the three demands: what a reviewer reads after the definitions. Each statement is proved elsewhere, by the
 -- theorem that stands behind its `=`. `Bytes bs` says that every number of the lent memory is a byte; `callFits` and `callsFit` that the numbers
 -- of calls are those of 32 bits; `replyTo` is what an entry point answers and leaves on any bytes, and what each C
--- function of the eight calls promises. Beside this file: StateFile.antt, Search.antt, Itron.antt and Accounts.antt.
+-- function of the eight calls promises. Beside this file: StateFile.antt, Search.antt, Timeouts.antt, Itron.antt and Accounts.antt.
 use mathlib.Core.Path.{_≡_}
 use mathlib.Core.Bool.{true, false}
 use mathlib.Core.List.{List, [], _∷_, _++_, map}
@@ -12,21 +12,24 @@ use lib.ListN.{length, getD, take, replicate}
 use Rattle.laws.specs.Choose.{choose}
 use Rattle.words.proofs.WordsInBytes.{Bytes, Words}
 use Rattle.rules.specs.declared.Call.{Call}
-use Rattle.rules.specs.declared.Call.the-variants.{Create, Delete, Obtain, Release, Tick}
+use Rattle.rules.specs.declared.Call.the-variants.{Create, Delete, Obtain, Release}
 use Rattle.rules.specs.declared.Wait.{Wait}
-use Rattle.rules.specs.declared.Wait.the-variants.{Poll, Forever, Ticks}
-use Rattle.rules.specs.Numbers.{maxGeneration, byPriority, isBinary}
-use Rattle.rules.specs.Machine.{Tables, unstarted, withTasks, withReady, taskOf, slotOf, names, next}
-use Rattle.rules.specs.Agreement.{Agrees}
-use Rattle.rules.specs.Semaphore.{waitOf}
-use Rattle.rules.specs.Calls.{anyCaller, step}
+use Rattle.rules.specs.Numbers.{maxPriority, maxGeneration, byPriority, isBinary, inherits}
+use Rattle.rules.specs.Machine.{Slot, Tables, unstarted, taskOf, slotOf, isTask, isLive, names, urgency, mostUrgent, next}
+use Rattle.rules.specs.Agreement.{Agrees, isReadyTask}
+use Rattle.rules.specs.Semaphore.{servedPlace, ahead, insertAt, servingOrder, requeued, removeAt}
+use Rattle.rules.specs.Calls.{anyCaller, stillWaiting, tickedSlot, step}
 use Rattle.rules.specs.Runs.{Request, after, answers}
-use Rattle.rules.specs.Promises.{Refusal, IsRefusal, listed, isIn, SomeGives, NextIs, sequenceAfter, ticksAmong, waitsThrough, NeverAgain}
+use Rattle.rules.specs.Promises.{Refusal, IsRefusal, listed, isIn, SomeGives, NextIs, sequenceAfter, LeastBehind, FirstOfLeast, behind, NeverAgain}
 use Rattle.rules.specs.Fits.{callFits, callsFit}
 use Rattle.rules.proofs.Refusals.{refusal-keeps}
 use Rattle.rules.proofs.Statuses.{listed-given}
 use Rattle.rules.proofs.Next.{next-is, answered-next}
 use Rattle.rules.proofs.Sequence.{ready-order}
+use Rattle.rules.proofs.Chains as chains
+use Rattle.rules.proofs.Serving as serving
+use Rattle.rules.proofs.Ticking.{order-ticked}
+use Rattle.rules.proofs.Inheritance as inheritance
 use Rattle.rules.proofs.Invariants.Agreeing.{unstarted-agrees}
 use Rattle.rules.proofs.Invariants.Kept.{kept}
 use Rattle.rules.proofs.History.Identifiers.{created-once}
@@ -37,6 +40,7 @@ use Rattle.tables.specs.Layout.{tablesLength, laid, modelOf}
 use Rattle.tables.specs.Sizes.{Holds}
 use Rattle.tables.proofs.LayoutRead as layouts
 use Rattle.tables.proofs.LayoutStore.{laid-unstarted}
+use Rattle.records.specs.Beside.{goesBy, nextOf}
 use Rattle.records.proofs.Core.{as-the-core}
 use Rattle.agreement.specs.Bytes.{agreesBytes}
 use Rattle.calls.specs.Agreeing.{Agreeing}
@@ -67,8 +71,6 @@ use Rattle.encoding.specs.Laid.{memory, laidPlaces, laidGrants}
 use Rattle.refusals.specs.Defined.{inputOf}
 use Rattle.runner.specs.Reply.{refusalOf, ran, runReply}
 use Rattle.runner.proofs.Demands.{ending, ending-held, lent-serial, refused-lent}
-use Rattle.theorems.proofs.Waits as waits
-use Rattle.theorems.proofs.WaitsInBytes as lasting
 
 -- ---- demand 1: every call is defined; a refusal changes nothing; tables that contradict themselves get 25 and no next task
 
@@ -122,7 +124,7 @@ unstarted-is-zeros = (laid-unstarted, unstarted-agrees)
 pub layout-reads-back : (t : Tables) → Holds t → modelOf (laid t) ≡ t
 layout-reads-back = layouts.modelOf-laid
 
--- the next task: of the ready tasks those of the least priority number, of these the first in the sequence; 0 if none is ready
+-- the next task: of the ready tasks those of the least working priority, of these the first in the sequence; 0 if none is ready
 pub next-task : (t : Tables) → Agrees t → NextIs t (next t)
 next-task = next-is
 
@@ -135,12 +137,13 @@ pub next-task-in-the-bytes : (bs : List ℕ) (call : Call) (priorities : List �
     → let r = replyTo bs call priorities in NextIs (modelOf (r .bytes)) (r .answer .next)
 next-task-in-the-bytes = entries.next-after-bytes
 
--- callers with records of their own get the same: their function promises `next` of the tables that have but the tasks and the sequence
-pub next-task-of-records : (t : Tables) → next (withReady (withTasks unstarted (t .tasks)) (t .ready)) ≡ next t
+-- callers with records of their own get the same, given the working priorities beside the records
+pub next-task-of-records : (t : Tables) (working : List ℕ) → ((q : ℕ) → isTask t q ≡ true → goesBy (t .tasks) working q ≡ urgency t q)
+    → nextOf (t .tasks) (t .ready) working ≡ next t
 next-task-of-records = as-the-core
 
 -- the order itself, for every call: the sequence after it is those that were ready before and still are, in their old order, followed by those that it
--- made ready: a release's one task, a delete's and a flush's in queue order, a tick's and a start's in task number order; no other call makes any ready
+-- made ready: the waiter that a release serves, a delete's and a flush's in the order of serving, a tick's and a start's in task number order; no other call makes any ready
 pub sequence-after-every-call : (t : Tables) (call : Call) (priorities : List ℕ) → Agrees t
     → let u = step t call priorities .tables in u .ready ≡ sequenceAfter t call u
 sequence-after-every-call = ready-order
@@ -193,45 +196,56 @@ pub unsatisfied-release-exactly : (t : Tables) → Agrees t → (caller id : ℕ
     ↔ ((anyCaller t caller 0 ≡ 0) × (names t id ≡ true) × (isBinary (s .attributes) ≡ false) × (s .count ≡ s .maximum))
 unsatisfied-release-exactly = maxima.release-at-maximum
 
--- request 6: how options and timeout give a wait. Odd options are NO_WAIT, whatever the timeout; otherwise 0 is the standard limit, 500 ticks, 4294967295 is
--- for ever, and any other timeout is that many ticks
-pub no-wait-ignores-timeouts : (options : ℕ) → options % 2 ≡ 1 → (timeout : ℕ) → waitOf options timeout ≡ Poll
-no-wait-ignores-timeouts = lasting.no-wait
+-- request 8: the working priority, by which the next task and PRIORITY queues go, is the least number among a task's own and those of all tasks that stand
+-- behind it by a chain of inheritance semaphores of any length: N links cut nothing off
+pub working-priority-is-the-least : (t : Tables) (q : ℕ) → isTask t q ≡ true → LeastBehind t q (urgency t q)
+working-priority-is-the-least = chains.working-is-least
 
-pub timeouts-told-apart : (options : ℕ) → options % 2 ≡ 0
-    → (waitOf options 0 ≡ Ticks 500) × (waitOf options 4294967295 ≡ Forever)
-    × ((timeout : ℕ) → timeout ≢ 0 → timeout ≢ 4294967295 → waitOf options timeout ≡ Ticks timeout)
-timeouts-told-apart options even = (lasting.standard-wait options even, lasting.endless-wait options even, lasting.timed-wait options even)
+-- an owner is at least as urgent as each waiter of its inheritance semaphores
+pub owner-at-least-as-urgent : (t : Tables) → Agrees t → (n : ℕ) → let s = slotOf t n in isLive s ≡ true → inherits (s .attributes) ≡ true
+    → (k : ℕ) → k < length (s .queue) → urgency t (s .owner) ≤ urgency t (getD (s .queue) k 0)
+owner-at-least-as-urgent = chains.owner-urgent
 
--- an obtain that is answered 100 had no NO_WAIT; it leaves bytes that agree, and in them its caller waits with so many ticks left, 0 for ever
-pub wait-begins : (bs : List ℕ) → Bytes bs → (caller id options timeout : ℕ) (priorities : List ℕ) → callFits (Obtain caller id (waitOf options timeout)) ≡ true
-    → let r = replyTo bs (Obtain caller id (waitOf options timeout)) priorities in r .answer .status ≡ 100
-    → let v = taskOf (modelOf (r .bytes)) caller in
-    (options % 2 ≡ 0) × (agreesBytes (r .bytes) ≡ true) × (v .answer ≡ 100)
-    × (v .ticks ≡ choose (eqb timeout 0) 500 (choose (eqb timeout 4294967295) 0 timeout))
-wait-begins = lasting.wait-begun
+-- no inversion: while a task waits on an inheritance semaphore and the owner at the end of its chain is ready, the next task is at least as urgent as the
+-- waiter (of a task that does not wait, by 0 links, too); so of every answer
+pub no-inversion : (t : Tables) → Agrees t → (r links : ℕ) → isReadyTask t (behind t r links) ≡ true
+    → (isReadyTask t (next t) ≡ true) × (urgency t (next t) ≤ urgency t r)
+no-inversion t a = chains.no-inversion t (next t) (next-is t a)
 
--- while a task's wait goes on, through any of the eight calls, the next tick ends it, with answer 6, exactly if that is the last of the ticks it had left; 0
--- left is for ever. This holds of every wait in agreeing bytes, also of one from before the request or from a state file
-pub tick-ends-a-wait : (bs : List ℕ) → Bytes bs → agreesBytes bs ≡ true → (q : ℕ) (requests : List Request) → callsFit requests ≡ true
-    → waitsThrough (modelOf bs) q requests ≡ true → (priorities : List ℕ)
-    → taskOf (modelOf (replyTo (replies bs requests .bytes) Tick priorities .bytes)) q .answer
-    ≡ choose (eqb (suc (ticksAmong requests)) (taskOf (modelOf bs) q .ticks)) 6 100
-tick-ends-a-wait bs b a = lasting.tick-ends (entries.agreeing-tested bs b .0 a)
+pub no-inversion-in-the-bytes : (bs : List ℕ) (call : Call) (priorities : List ℕ) → Bytes bs → agreesBytes bs ≡ true → callFits call ≡ true
+    → let reply = replyTo bs call priorities in let u = modelOf (reply .bytes) in
+    (r links : ℕ) → isReadyTask u (behind u r links) ≡ true → (isReadyTask u (reply .answer .next) ≡ true) × (urgency u (reply .answer .next) ≤ urgency u r)
+no-inversion-in-the-bytes bs call priorities b a f = chains.no-inversion _ _ (entries.next-after-bytes bs call priorities b a f)
 
--- so nobody waits for ever by accident: with any timeout but 4294967295 a wait that goes on has seen fewer ticks than it was given, with 0 fewer than 500
-pub no-wait-for-ever-by-accident : (bs : List ℕ) → Bytes bs → (caller id options timeout : ℕ) (priorities : List ℕ)
-    → callFits (Obtain caller id (waitOf options timeout)) ≡ true
-    → let r = replyTo bs (Obtain caller id (waitOf options timeout)) priorities in r .answer .status ≡ 100 → timeout ≢ 4294967295
-    → (requests : List Request) → callsFit requests ≡ true → waitsThrough (modelOf (r .bytes)) caller requests ≡ true
-    → ticksAmong requests < choose (eqb timeout 0) 500 timeout
-no-wait-for-ever-by-accident = lasting.bounded
+-- by the numbers u, the working priorities before the call: in a PRIORITY queue the waiter served is the first of the least number; a delete and a flush wake in
+-- the order in which releases would serve by these same numbers
+pub served-first-of-the-least : (u : ℕ → ℕ) (s : Slot) → byPriority (s .attributes) ≡ true → 1 ≤ length (s .queue) → FirstOfLeast u (s .queue) (servedPlace u s)
+served-first-of-the-least = serving.served-least
 
--- computed: two tasks wait with timeout 0 and with 4294967295; the ticks kept, and the tasks' answers before 600 ticks and after each. Both still wait after
--- 499, the 500th ends the first with 6, and none ends the second
-pub standard-limit-case : (map (λ v. v .ticks) (tablesOf waits.waiters .tasks) ≡ 500 ∷ 0 ∷ [])
-    × (waits.answersAlong (tablesOf waits.waiters) (replicate 600 (ask Tick)) ≡ replicate 500 (100 ∷ 100 ∷ []) ++ replicate 101 (6 ∷ 100 ∷ []))
-standard-limit-case = (waits.waiters-kept, waits.standard-limit)
+pub woken-as-served : (u : ℕ → ℕ) (s : Slot) → 1 ≤ length (s .queue) → let place = servedPlace u s in
+    servingOrder u s ≡ getD (s .queue) place 0 ∷ servingOrder u (requeued s (removeAt place (s .queue)))
+woken-as-served = serving.order-served
+
+-- without such semaphores every task goes by its own number, the next task as before; and the order of serving is the order in which PRIORITY queues stood
+-- before: who joins goes behind all of equal or more urgent number, the first of it is served, and a tick takes out those whose wait it ends
+pub without-inheritance : (t : Tables) → ((n : ℕ) → inherits (slotOf t n .attributes) ≡ false) → urgency t ≡ (λ q. taskOf t q .priority)
+without-inheritance = chains.own-priorities
+
+pub next-without-inheritance : (t : Tables) → ((n : ℕ) → inherits (slotOf t n .attributes) ≡ false)
+    → next t ≡ mostUrgent t (λ q. taskOf t q .priority) (t .ready) 0 (suc maxPriority)
+next-without-inheritance = chains.next-by-own
+
+pub joins-behind-equals : (u : ℕ → ℕ) (s : Slot) (q : ℕ) → byPriority (s .attributes) ≡ true → let order = servingOrder u s in
+    servingOrder u (requeued s (s .queue ++ q ∷ [])) ≡ insertAt (ahead u (u q) order) q order
+joins-behind-equals = serving.order-joined
+
+pub ticked-out-of-the-order : (u : ℕ → ℕ) (t : Tables) (s : Slot) → servingOrder u (tickedSlot t s) ≡ stillWaiting t (servingOrder u s)
+ticked-out-of-the-order = order-ticked
+
+-- computed: the radio waits for the bus that the display holds. With attributes 84 the display is next, with 20 the logger
+pub radio-and-display : (answersOf (requests (inheritance.bus 84 3)) ≡ expected (inheritance.bus 84 3))
+    × (answersOf (requests (inheritance.bus 20 2)) ≡ expected (inheritance.bus 20 2))
+radio-and-display = inheritance.radio-and-display
 
 -- request 7: a run's history is a list of events, each with its call, its answer and the waits that it ended (Accounts.antt says what is in it, and has the
 -- same over the bytes of the entry points and from a load on). The count accounts for every grant: of a live counting or simple binary semaphore, from its

@@ -18,11 +18,11 @@ use Rattle.rules.specs.declared.Task.{Task}
 use Rattle.rules.specs.declared.Wait.{Wait}
 use Rattle.rules.specs.declared.Call.{Call}
 use Rattle.rules.specs.declared.Call.the-variants.{Start, Create, Ident, Delete, Obtain, Release, Flush, Tick}
-use Rattle.rules.specs.Machine.{Slot, Tables, noTask, taskOf, slotOf, putSlot, waits, urgency, slotNamed}
+use Rattle.rules.specs.Machine.{Slot, Tables, noTask, taskOf, slotOf, putSlot, waits, slotNamed}
 use Rattle.rules.specs.Agreement.{Agrees, agrees}
-use Rattle.rules.specs.Semaphore.{polls, ticksOf, placeOf, Taken, takeStep, Given, giveStep}
+use Rattle.rules.specs.Semaphore.{polls, ticksOf, Taken, takeStep, Given}
 use Rattle.rules.specs.Calls.{Outcome, refused, unless, startRefusal, start, createRefusal, create, firstNamed, ident}
-use Rattle.rules.specs.Calls.{deleteRefusal, delete, beginWait, blocked, obtainRefusal, obtain, releaseRefusal, release, flushRefusal, flush}
+use Rattle.rules.specs.Calls.{deleteRefusal, delete, beginWait, blocked, obtainRefusal, obtain, giveOf, releaseRefusal, release, flushRefusal, flush}
 use Rattle.rules.specs.Calls.{expires, ticked, tickedTables, tick, perform, step}
 use Rattle.rules.specs.Runs.{Request, stepOf, after}
 use Rattle.rules.specs.Promises.{kindOf, ticksAmong, waitsThrough}
@@ -38,9 +38,9 @@ use Rattle.rules.proofs.Invariants.Waking.{wake-keeps, wakeAll-keeps}
 -- ---- a wait begins
 
 -- who does not wait at all is never told to
-take-waits : (s : Slot) (caller place : ℕ) (wait : Wait) → eqb (takeStep s caller place wait .status) 100 ≡ true → polls wait ≡ false
+take-waits : (s : Slot) (caller : ℕ) (wait : Wait) → eqb (takeStep s caller wait .status) 100 ≡ true → polls wait ≡ false
 unfolding takeStep
-take-waits s caller place wait =
+take-waits s caller wait =
     choose-cases P _ _ _ (λ e z. never z refl)
     (λ e. choose-cases P _ _ _ (λ e. choose-cases P _ _ _ (λ e z. never z refl) (λ e z. never z refl))
     (λ e. choose-cases P _ _ _ (λ e z. never z refl) (λ e z. e)))
@@ -56,7 +56,7 @@ pub record Begun (caller : ℕ) (wait : Wait) (u : Tables) : Type 0 where
 
 module _ (t : Tables) (caller id : ℕ) (wait : Wait) where
   taken : Taken
-  taken = takeStep (slotOf t (slotNamed t id)) caller (placeOf (urgency t) (slotOf t (slotNamed t id)) caller) wait
+  taken = takeStep (slotOf t (slotNamed t id)) caller wait
 
   begun-there : Caller t caller → eqb (taken .status) 100 ≡ true
       → Begun caller wait (beginWait (putSlot t (slotNamed t id) (taken .slot)) caller (blocked (taskOf t caller) id wait))
@@ -65,7 +65,7 @@ module _ (t : Tables) (caller id : ℕ) (wait : Wait) where
       let inside : pred caller < length (t .tasks) = omega (arith, who .first, who .last) in
       let is = getD-set-same (t .tasks) (pred caller) (blocked (taskOf t caller) id wait) noTask inside in
       record {
-        may = take-waits (slotOf t (slotNamed t id)) caller _ wait w;
+        may = take-waits (slotOf t (slotNamed t id)) caller wait w;
         answer = ap (λ (v : Task). v .answer) is;
         ticks = ap (λ (v : Task). v .ticks) is;
       }
@@ -152,7 +152,7 @@ module _ (t : Tables) (q : ℕ) (waiting : waits (taskOf t q) ≡ true) where
       (λ some. wake-keeps (As (taskOf t q)) (pred q) (putSlot t (slotNamed t id) (given .slot)) (given .woken) 0 (λ w. never w refl) (λ w. refl)))
     where
       given : Given
-      given = giveStep (slotOf t (slotNamed t id)) caller
+      given = giveOf t (slotOf t (slotNamed t id)) caller
 
   -- the caller was ready, so it is another task
   obtain-same : (caller id : ℕ) (wait : Wait) → Same (obtain t caller id wait)

@@ -74,16 +74,16 @@ impl Coverage {
         if before.tasks.is_empty() {
             return;
         }
-        let next = answer.next;
+        let (next, working) = (answer.next, after.working());
         let equals: Vec<u32> =
-            after.ready.iter().copied().filter(|&task| equal(after, task, next)).collect();
+            after.ready.iter().copied().filter(|&task| equal(&working, task, next)).collect();
         self.happened("next is not the lowest of its equals", equals.iter().any(|&task| task < next));
         if let (Call::Obtain { caller, .. }, WAITING) = (call, answer.status) {
             let caller = *caller;
             let was_next = before.next_task() == caller;
             self.happened(
                 "obtain handed over to an equal",
-                was_next && next != 0 && equal(after, caller, next),
+                was_next && next != 0 && equal(&working, caller, next),
             );
             let ends = [before.ready.first(), before.ready.last()];
             self.happened(
@@ -104,8 +104,8 @@ impl Coverage {
         let Some((&next, others)) = equals.split_first() else { return };
         let lower = others.iter().any(|&task| woken.contains(&task) && task < next);
         let behind_ready = lower && !woken.contains(&next);
-        let pairs: Vec<(u32, u32)> = equal_pairs(after, &woken);
-        let against_numbers = pairs.iter().any(|(first, second)| first > second);
+        let pairs = equal_pairs(&after.working(), &woken);
+        let against_numbers = against_numbers(before, &woken);
         match call {
             Call::Release { .. } => {
                 self.happened("release woke a lower equal of the next task", behind_ready)
@@ -160,25 +160,31 @@ impl Coverage {
     }
 }
 
+/// Whether of two equals the one with the higher number was woken first; a queue is woken by the priorities before the call.
+fn against_numbers(before: &Machine, woken: &[u32]) -> bool {
+    equal_pairs(&before.working(), woken).iter().any(|(first, second)| first > second)
+}
+
 /// The pairs of equals among these tasks, each with the earlier one first.
-fn equal_pairs(machine: &Machine, tasks: &[u32]) -> Vec<(u32, u32)> {
+fn equal_pairs(working: &[u32], tasks: &[u32]) -> Vec<(u32, u32)> {
     let mut pairs = Vec::new();
     for (index, &first) in tasks.iter().enumerate() {
-        let equals = tasks[index + 1..].iter().filter(|&&second| equal(machine, first, second));
+        let equals = tasks[index + 1..].iter().filter(|&&second| equal(working, first, second));
         pairs.extend(equals.map(|&second| (first, second)));
     }
     pairs
 }
 
-/// Whether two tasks have one priority; nobody, 0, has none.
-fn equal(machine: &Machine, one: u32, other: u32) -> bool {
-    one != 0 && other != 0 && machine.priority(one) == machine.priority(other)
+/// Whether two tasks work with one priority; nobody, 0, has none.
+fn equal(working: &[u32], one: u32, other: u32) -> bool {
+    one != 0 && other != 0 && working[one as usize - 1] == working[other as usize - 1]
 }
 
 /// Whether the next task has a ready equal of a lower number, which the sequence puts behind it.
 pub fn next_passes_a_lower_equal(machine: &Machine) -> bool {
-    let next = machine.next_task();
-    machine.ready.iter().any(|&task| task < next && equal(machine, task, next))
+    let working = machine.working();
+    let next = machine.next_by(&working);
+    machine.ready.iter().any(|&task| task < next && equal(&working, task, next))
 }
 
 /// The place in `FAULTS` of the one thing that is wrong with a sequence, if it is one alone.

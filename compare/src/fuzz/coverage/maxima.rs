@@ -49,7 +49,7 @@ impl Coverage {
         let done = answer.status == SUCCESSFUL && is_between(maximum);
         self.happened(CALLS[0], done);
         self.happened(CALLS[1], done && count == maximum);
-        let class = split_attributes(attributes).map(|(class, _)| class);
+        let class = split_attributes(attributes).map(|(class, ..)| class);
         let refused = class.is_some_and(|class| !class.allows(maximum)) || count > maximum;
         self.happened(CALLS[8], refused && answer.status == INVALID_NAME && name == 0);
         self.happened(CALLS[9], refused && answer.status == NOT_DEFINED);

@@ -1,4 +1,4 @@
--- `agreement::is_queue_agreeing` meets its contract. The invariant: the places passed, the marks made there and the urgency of the last.
+-- `agreement::is_queue_agreeing` meets its contract. The invariant: the places passed and the marks made there.
 use borrow.Author.Needs.{needs}
 use mathlib.Core.Path.{_≡_, ap, subst, sym, _∙_}
 use mathlib.Core.Bool.{Bool, true, false}
@@ -9,22 +9,21 @@ use lib.ListN.{length, getD, set}
 use borrow.Author.Tests.{leb-true, not-true, not-false}
 use Rattle.laws.proofs.Choose.{and-both}
 use Rattle.words.specs.Words.{wordAt}
-use Rattle.rules.specs.Numbers.{byPriority}
 use Rattle.rules.specs.Machine.{Slot, Tables, slotOf}
 use Rattle.tables.specs.declared.Head.{Head}
 use Rattle.tables.specs.Layout.{recordAt, slotWith, modelOf}
 use Rattle.lookup.proofs.Model.{length-tasks}
-use Rattle.agreement.specs.Tests.{isApart, isInTurn, QueueTested}
-use Rattle.agreement.proofs.Queues.{Passed, AtPlace, Waiter, passed-none, passed-all, not-apart, not-in-turn, not-fresh, passed-more}
+use Rattle.agreement.specs.Tests.{isApart, isWaitingOn, QueueTested}
+use Rattle.agreement.proofs.Queues.{Passed, AtPlace, Waiter, passed-none, passed-all, not-apart, not-waiting, not-fresh, passed-more}
 use Rattle.agreement.proofs.Model.{queueIn, queue-length, entry-read, queue-told, task-of}
 use Rattle.agreement.proofs.is_queue_agreeing.Statement.{statement}
 use Rattle.agreement.proofs.is_queue_agreeing.Tie as tie
 
 abbrev Inv-loop : tie.InvT-loop
-Inv-loop m i id s seen₀ tasks waiters before₀ k₀ seen before k = Passed (modelOf m) seen₀ id (slotWith s (queueIn m i)) k seen before
+Inv-loop m i id s seen₀ tasks waiters k₀ seen k = Passed (modelOf m) seen₀ id (slotWith s (queueIn m i)) k seen
 
 abbrev μ-loop : tie.MeasureT-loop
-μ-loop m i id s seen₀ tasks waiters before₀ k₀ seen before k = waiters - k
+μ-loop m i id s seen₀ tasks waiters k₀ seen k = waiters - k
 
 -- ---- what is known at a place
 
@@ -52,7 +51,7 @@ told c r after = queue-told (c .args .m .now) (c .pre .0) (c .args .i) (c .pre .
 
 place : (c : tie.After-queue-entry Inv-loop μ-loop)
     → AtPlace (model (start (c .before))) (start (c .before) .args .seen .now) (start (c .before) .args .id) (slot (start (c .before)))
-    (c .before .before .loop .k) (c .before .before .loop .seen) (c .before .before .loop .before) (c .queue-entry .result)
+    (c .before .before .loop .k) (c .before .before .loop .seen) (c .queue-entry .result)
 place c =
     let first = start (c .before) in
     record {
@@ -81,7 +80,7 @@ waiter : (c : tie.After-load-task Inv-loop μ-loop)
     → Waiter (model (start (c .before .before .before .before))) (start (c .before .before .before .before) .args .seen .now)
     (start (c .before .before .before .before) .args .id) (slot (start (c .before .before .before .before)))
     (c .before .before .before .before .before .loop .k) (c .before .before .before .before .before .loop .seen)
-    (c .before .before .before .before .before .loop .before) (c .before .before .before .queue-entry .result) (c .load-task .result)
+    (c .before .before .before .queue-entry .result) (c .load-task .result)
 waiter c =
     let q = number (c .before) in
     record {
@@ -90,12 +89,9 @@ waiter c =
       apart = sym (apartness (c .before .before)) ∙ not-false _ (c .before .if1 .left);
     }
 
-turn : (c : tie.Else2 Inv-loop μ-loop)
-    → isInTurn (start (c .before .before .before .before .before .before) .args .id)
-    (byPriority (start (c .before .before .before .before .before .before) .args .s .attributes))
-    (c .before .before .before .before .before .before .before .loop .before) (c .before .before .load-task .result)
-    ≡ true
-turn c = sym (c .before .is-in-turn .ensures) ∙ not-false _ (c .if2 .left)
+waits-here : (c : tie.Else2 Inv-loop μ-loop)
+    → isWaitingOn (start (c .before .before .before .before .before .before) .args .id) (c .before .before .load-task .result) ≡ true
+waits-here c = sym (c .before .is-waiting-on .ensures) ∙ not-false _ (c .if2 .left)
 
 -- a task's mark stands at one less than its number
 mark-at : (c : tie.Else2 Inv-loop μ-loop)
@@ -141,13 +137,13 @@ load-task-requires c κs =
     let bounded = start (c .before .before .before) .pre .0 in
     (bounded .sized .long, omega (arith, number c .0, number c .1, bounded .sized .tasks))
 
-is-in-turn-requires : tie.Need-is-in-turn-requires Inv-loop μ-loop
-is-in-turn-requires c κs = search needs
+is-waiting-on-requires : tie.Need-is-waiting-on-requires Inv-loop μ-loop
+is-waiting-on-requires c κs = search needs
 
 returns-2 : tie.Need-returns-2 Inv-loop μ-loop
 returns-2 c =
     told (start (c .before .before .before .before .before .before)) _ _
-    (not-in-turn (waiter (c .before .before)) _ (sym (c .before .is-in-turn .ensures) ∙ not-true _ (c .if2 .taken)))
+    (not-waiting (waiter (c .before .before)) _ (sym (c .before .is-waiting-on .ensures) ∙ not-true _ (c .if2 .taken)))
 
 element-copy-out-if3 : tie.Need-element-copy-out-if3 Inv-loop μ-loop
 element-copy-out-if3 c =
@@ -157,7 +153,7 @@ returns-3 : tie.Need-returns-3 Inv-loop μ-loop
 returns-3 c =
     let at = c .before .before in
     let marked = subst (λ (n : ℕ). getD (at .before .before .before .before .before .before .before .loop .seen) n false ≡ true) (mark-at at) (c .if3 .taken) in
-    told (start (at .before .before .before .before .before .before)) _ _ (not-fresh (waiter (at .before .before)) (turn at) _ marked)
+    told (start (at .before .before .before .before .before .before)) _ _ (not-fresh (waiter (at .before .before)) (waits-here at) _ marked)
 
 element-write-seen : tie.Need-element-write-seen Inv-loop μ-loop
 element-write-seen c =
@@ -176,9 +172,8 @@ loop-again c =
     let loop = at .before .before .before .before .before .before .before .loop in
     let first = start (at .before .before .before .before .before .before) in
     let fresh = subst (λ (n : ℕ). getD (loop .seen) n false ≡ false) (mark-at at) (c .if3 .left) in
-    let v = at .before .before .load-task .result in
-    subst (λ (n : ℕ). Passed (model first) (first .args .seen .now) (first .args .id) (slot first) (loop .k + 1) (set (loop .seen) n true) (v .priority))
-    (sym (mark-at at)) (passed-more (waiter (at .before .before)) (turn at) fresh)
+    subst (λ (n : ℕ). Passed (model first) (first .args .seen .now) (first .args .id) (slot first) (loop .k + 1) (set (loop .seen) n true))
+    (sym (mark-at at)) (passed-more (waiter (at .before .before)) (waits-here at) fresh)
 
 returns-4 : tie.Need-returns-4 Inv-loop μ-loop
 returns-4 c =
@@ -201,7 +196,7 @@ is-queue-agreeing-spec =
     sub-at
     cast-at
     load-task-requires
-    is-in-turn-requires
+    is-waiting-on-requires
     returns-2
     element-copy-out-if3
     returns-3

@@ -18,7 +18,7 @@ use Rattle.rules.specs.Machine.{Slot, Tables, slotOf, putSlot, slotNamed
 use Rattle.rules.specs.Agreement.{agrees}
 use Rattle.rules.specs.Semaphore.{Taken, Given, takeStep, giveStep, passStep, flushStep}
 use Rattle.rules.specs.Calls.{Outcome, unless, wakeAll, openSlot, startRefusal, start, createRefusal, newSemaphore, create, firstNamed, ident}
-use Rattle.rules.specs.Calls.{deleteRefusal, delete, obtainRefusal, obtain, releaseRefusal, release, flushRefusal, flush, tickedSlot, tick}
+use Rattle.rules.specs.Calls.{deleteRefusal, delete, obtainRefusal, obtain, giveOf, releaseRefusal, release, flushRefusal, flush, tickedSlot, tick}
 use Rattle.rules.specs.Calls.{perform, step}
 use Rattle.rules.specs.Runs.{Request, stepOf, after}
 use Rattle.rules.proofs.Invariants.Agreeing.{sizes-within, true-agrees}
@@ -37,9 +37,9 @@ agreeing-started t a s =
     record { tasks = omega (arith, sizes .none); slots = sizes .slots }
 
 -- one semaphore's steps keep its generation, and it lives on
-same-taken : (s : Slot) (caller place : ℕ) (wait : Wait) → Onward s (takeStep s caller place wait .slot)
+same-taken : (s : Slot) (caller : ℕ) (wait : Wait) → Onward s (takeStep s caller wait .slot)
 unfolding takeStep
-same-taken s caller place wait =
+same-taken s caller wait =
     choose-cases P _ _ _ (λ e. onward-same s _ refl refl refl refl)
     (λ e. choose-cases P _ _ _
     (λ e. choose-cases P _ _ _ (λ e. onward-same s _ refl refl refl refl) (λ e. onward-same s _ refl refl refl refl))
@@ -48,9 +48,9 @@ same-taken s caller place wait =
     P : Taken → Type 0
     P x = Onward s (x .slot)
 
-same-given : (s : Slot) (caller : ℕ) → Onward s (giveStep s caller .slot)
+same-given : (s : Slot) (caller place : ℕ) → Onward s (giveStep s caller place .slot)
 unfolding giveStep passStep
-same-given s caller =
+same-given s caller place =
     choose-cases P _ _ _ (λ e. onward-same s _ refl refl refl refl)
     (λ e. choose-cases P _ _ _ (λ e. onward-same s _ refl refl refl refl)
     (λ e. choose-cases P _ _ _ (λ e. onward-same s _ refl refl refl refl)
@@ -111,18 +111,18 @@ module _ (t : Tables) where
   unfolding obtain
   obtain-went caller id wait =
       unless-went (obtainRefusal t caller id wait) _ (λ e. choose-cases (Went t) _ _ _
-      (λ f. record { forward = forward-slots _ refl (put _) }) (λ f. record { forward = put _ }))
+      (λ f. record { forward = forward-slots _ refl put }) (λ f. record { forward = put }))
     where
-      put : (place : ℕ) → Forward t (putSlot t (slotNamed t id) (takeStep (slotOf t (slotNamed t id)) caller place wait .slot))
-      put place = forward-put t (slotNamed t id) _ (same-taken (slotOf t (slotNamed t id)) caller place wait)
+      put : Forward t (putSlot t (slotNamed t id) (takeStep (slotOf t (slotNamed t id)) caller wait .slot))
+      put = forward-put t (slotNamed t id) _ (same-taken (slotOf t (slotNamed t id)) caller wait)
 
   release-went : (caller id : ℕ) → Went t (release t caller id)
   unfolding release
   release-went caller id =
       unless-went (releaseRefusal t caller id) _ (λ e. record { forward = choose-cases (Forward t) _ _ _ (λ f. put) (λ f. forward-slots _ refl put) })
     where
-      put : Forward t (putSlot t (slotNamed t id) (giveStep (slotOf t (slotNamed t id)) caller .slot))
-      put = forward-put t (slotNamed t id) _ (same-given (slotOf t (slotNamed t id)) caller)
+      put : Forward t (putSlot t (slotNamed t id) (giveOf t (slotOf t (slotNamed t id)) caller .slot))
+      put = forward-put t (slotNamed t id) _ (same-given (slotOf t (slotNamed t id)) caller _)
 
   flush-went : (caller id : ℕ) → Went t (flush t caller id)
   unfolding flush flushStep

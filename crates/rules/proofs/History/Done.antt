@@ -13,8 +13,9 @@ use Rattle.laws.proofs.Choose.{choose-cases, if-yes, and-both, or-second, never
 use Rattle.rules.specs.declared.Call.{Call}
 use Rattle.rules.specs.declared.Call.the-variants.{Create, Ident, Delete}
 use Rattle.rules.specs.Numbers.{maxSlots, maxGeneration}
-use Rattle.rules.specs.Machine.{Slot, Tables, freeSlot, slotOf, putSlot, isLive, idOf, names, slotNamed}
+use Rattle.rules.specs.Machine.{Slot, Tables, freeSlot, slotOf, putSlot, isLive, urgency, idOf, names, slotNamed}
 use Rattle.rules.specs.Agreement.{agrees}
+use Rattle.rules.specs.Semaphore.{servingOrder}
 use Rattle.rules.specs.Calls.{Outcome, answered, unless, refused, wakeAll, openSlot, createRefusal, newSemaphore, create, firstNamed, ident}
 use Rattle.rules.specs.Calls.{deleteRefusal, delete, perform, step}
 use Rattle.rules.proofs.History.Forward.{woken-slots}
@@ -129,7 +130,7 @@ deleted-ended {t} {id} d =
 
 module _ (t : Tables) (caller id : ℕ) where
   abbrev rid : ℕ → Tables
-  rid n = wakeAll (putSlot t n (freeSlot (slotOf t n .generation))) (slotOf t n .queue) 7
+  rid n = wakeAll (putSlot t n (freeSlot (slotOf t n .generation))) (servingOrder (urgency t) (slotOf t n)) 7
 
   delete-found : delete t caller id .answer .status ≡ 0 → Deleted t id (delete t caller id)
   unfolding delete

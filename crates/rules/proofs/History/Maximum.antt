@@ -16,7 +16,7 @@ use Rattle.rules.specs.Numbers.{isBinary, invalidId, unsatisfied}
 use Rattle.rules.specs.Machine.{Slot, Tables, slotOf, isLive, names}
 use Rattle.rules.specs.Agreement.{Agrees}
 use Rattle.rules.specs.Semaphore.{Given, ownedBy, giveStep, passStep}
-use Rattle.rules.specs.Calls.{Outcome, callerRefusal, anyCaller, releaseRefusal, release, perform, step}
+use Rattle.rules.specs.Calls.{Outcome, callerRefusal, anyCaller, giveOf, releaseRefusal, release, perform, step}
 use Rattle.rules.specs.Runs.{Request, after}
 use Rattle.rules.specs.Fits.{callsFit}
 use Rattle.rules.proofs.Invariants.Agreeing.{agrees-true}
@@ -61,9 +61,10 @@ created-maximum t caller name count attributes maximum priorities requests e n =
     ∙ c .given
 
 -- one semaphore's step there
-give-full : (s : Slot) (caller : ℕ) → isBinary (s .attributes) ≡ false → length (s .queue) < 1 → s .count ≡ s .maximum → giveStep s caller .status ≡ unsatisfied
+give-full : (s : Slot) (caller place : ℕ) → isBinary (s .attributes) ≡ false → length (s .queue) < 1 → s .count ≡ s .maximum
+    → giveStep s caller place .status ≡ unsatisfied
 unfolding giveStep passStep
-give-full s caller b none top =
+give-full s caller place b none top =
     ap (λ (g : Given). g .status)
     (if-no _ _ (if-no _ _ b) ∙ if-no _ _ (if-no _ _ b) ∙ if-no _ _ (lt-leb 1 (length (s .queue)) none) ∙ if-yes _ _ (eq-eqb (s .count) (s .maximum) top))
 
@@ -79,10 +80,10 @@ may-call t caller rest e =
     stopped = isnt (eqb caller 0) and isnt (eqb (callerRefusal t caller) 0)
 
 -- and what has led to 13
-give-unsatisfied : (N : ℕ) (u : ℕ → ℕ) (s : Slot) → SlotFits N u s → isLive s ≡ true → (caller : ℕ) → giveStep s caller .status ≡ unsatisfied
+give-unsatisfied : (N : ℕ) (s : Slot) → SlotFits N s → isLive s ≡ true → (caller place : ℕ) → giveStep s caller place .status ≡ unsatisfied
     → (isBinary (s .attributes) ≡ false) × (s .count ≡ s .maximum)
 unfolding giveStep passStep
-give-unsatisfied N u s fits l caller =
+give-unsatisfied N s fits l caller place =
     choose-cases P _ _ _ (λ e z. absurd (omega arith))
     (λ owned. choose-cases P _ _ _ (λ e z. absurd (omega arith))
     (λ e. choose-cases P _ _ _ (λ q z. absurd (omega arith))
@@ -145,8 +146,8 @@ module _ (t : Tables) (a : Agrees t) (caller id : ℕ) where
   refused-there (may, n, b, top) =
       may-call t caller _ may
       ∙ if-yes _ _ n
-      ∙ ap (λ (k : ℕ). giveStep (slotOf t k) caller .status) (if-yes _ _ n)
-      ∙ give-full (slotOf t (id % 65536)) caller b (nobody n top) top
+      ∙ ap (λ (k : ℕ). giveOf t (slotOf t k) caller .status) (if-yes _ _ n)
+      ∙ give-full (slotOf t (id % 65536)) caller _ b (nobody n top) top
 
   there-refused : releaseRefusal t caller id ≡ unsatisfied → AtMaximum t caller id
   unfolding releaseRefusal
@@ -154,10 +155,10 @@ module _ (t : Tables) (a : Agrees t) (caller id : ℕ) where
       let p = caller-stopped t caller _ e in
       ⊎-elim
       (λ (n : names t id ≡ true).
-      let given : giveStep (slotOf t (id % 65536)) caller .status ≡ unsatisfied =
-      ap (λ (k : ℕ). giveStep (slotOf t k) caller .status) (sym (if-yes _ _ n)) ∙ sym (if-yes _ _ n) ∙ p .1
+      let given : giveOf t (slotOf t (id % 65536)) caller .status ≡ unsatisfied =
+      ap (λ (k : ℕ). giveOf t (slotOf t k) caller .status) (sym (if-yes _ _ n)) ∙ sym (if-yes _ _ n) ∙ p .1
       in
-      let full = give-unsatisfied _ _ (slotOf t (id % 65536)) (agrees-facts t a .slots (pred (id % 65536))) (names-named t id n .lives) caller given in
+      let full = give-unsatisfied _ (slotOf t (id % 65536)) (agrees-facts t a .slots (pred (id % 65536))) (names-named t id n .lives) caller _ given in
       (p .0, n, full .0, full .1))
       (λ (n : names t id ≡ false). absurd (other (sym (if-no _ _ n) ∙ p .1)))
       (tested (names t id))

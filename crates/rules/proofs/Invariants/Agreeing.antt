@@ -13,12 +13,12 @@ use Rattle.laws.proofs.Choose.{and-both, both-and, or-either, when-then, then-w
 use Rattle.laws.specs.All.{all}
 use Rattle.laws.proofs.All.{all-at, all-of}
 use Rattle.rules.specs.declared.Task.{Task}
-use Rattle.rules.specs.Numbers.{maxTasks, maxSlots, allowed, byPriority, isBinary}
+use Rattle.rules.specs.Numbers.{maxTasks, maxSlots, allowed, isBinary}
 use Rattle.rules.specs.Machine.{Slot, Tables, unstarted, taskOf, slotOf, waits, isLive, idOf}
 use Rattle.rules.specs.Agreement.{Agrees, agrees, sizesFit, numbersFit, answersFit, liveNamed, attributesAllowed, waitersQueued, queuesWait}
-use Rattle.rules.specs.Agreement.{queuesOrdered, queuedAtZero, binariesRight, othersRight, maximaRight, readyAtRest, freeSlotsClear, eachLive, occurs}
+use Rattle.rules.specs.Agreement.{queuedAtZero, binariesRight, othersRight, maximaRight, readyAtRest, freeSlotsClear, eachLive, occurs}
 use Rattle.rules.specs.Agreement.{readySequenced, sequenceReady, isReadyTask}
-use Rattle.rules.specs.Agreement.{taskInLimits, answerFits, isQueuedOnce, isAtRest, slotInLimits, isNamedRight, allWaitOn, isOrdered}
+use Rattle.rules.specs.Agreement.{taskInLimits, answerFits, isQueuedOnce, isAtRest, slotInLimits, isNamedRight, allWaitOn}
 use Rattle.rules.specs.Agreement.{isZeroWhereQueued, isBinaryRight, isOtherRight, isMaximumRight, isClear}
 
 pub agrees-true : (t : Tables) → Agrees t → agrees t ≡ true
@@ -26,8 +26,8 @@ unfolding agrees
 agrees-true t a =
     both-and (a .sizes) (both-and (a .numbers) (both-and (a .answers) (both-and (a .named) (both-and (a .attributed)
     (both-and (a .waiters)
-    (both-and (a .queues) (both-and (a .ordered) (both-and (a .atZero) (both-and (a .owned) (both-and (a .unowned) (both-and (a .maxima)
-    (both-and (a .atRest) (both-and (a .clear) (both-and (a .sequenced) (a .onlyReady)))))))))))))))
+    (both-and (a .queues) (both-and (a .atZero) (both-and (a .owned) (both-and (a .unowned) (both-and (a .maxima)
+    (both-and (a .atRest) (both-and (a .clear) (both-and (a .sequenced) (a .onlyReady))))))))))))))
 
 pub true-agrees : (t : Tables) → agrees t ≡ true → Agrees t
 unfolding agrees
@@ -46,7 +46,6 @@ true-agrees t e₁ =
     let e₁₃ = and-both _ _ (e₁₂ .1) in
     let e₁₄ = and-both _ _ (e₁₃ .1) in
     let e₁₅ = and-both _ _ (e₁₄ .1) in
-    let e₁₆ = and-both _ _ (e₁₅ .1) in
     record {
       sizes = e₂ .0;
       numbers = e₃ .0;
@@ -55,15 +54,14 @@ true-agrees t e₁ =
       attributed = e₆ .0;
       waiters = e₇ .0;
       queues = e₈ .0;
-      ordered = e₉ .0;
-      atZero = e₁₀ .0;
-      owned = e₁₁ .0;
-      unowned = e₁₂ .0;
-      maxima = e₁₃ .0;
-      atRest = e₁₄ .0;
-      clear = e₁₅ .0;
-      sequenced = e₁₆ .0;
-      onlyReady = e₁₆ .1;
+      atZero = e₉ .0;
+      owned = e₁₀ .0;
+      unowned = e₁₁ .0;
+      maxima = e₁₂ .0;
+      atRest = e₁₃ .0;
+      clear = e₁₄ .0;
+      sequenced = e₁₅ .0;
+      onlyReady = e₁₅ .1;
     }
 
 -- ---- N and S
@@ -106,7 +104,6 @@ pub record LiveAgrees (t : Tables) (n : ℕ) (s : Slot) : Type 0 where
   pub named : isNamedRight s ≡ true
   pub attributed : allowed (s .attributes) ≡ true
   pub waiting : allWaitOn t (idOf n s) (s .queue) ≡ true
-  pub ordered : byPriority (s .attributes) ≡ true → isOrdered t (s .queue) ≡ true
   pub atZero : isZeroWhereQueued s ≡ true
   pub owned : isBinary (s .attributes) ≡ true → isBinaryRight (length (t .tasks)) s ≡ true
   pub unowned : isBinary (s .attributes) ≡ false → isOtherRight s ≡ true
@@ -129,7 +126,7 @@ module _ (t : Tables) where
   live-at p e j h = when-then _ _ (all-at _ _ e j h)
 
   pub agrees-items : Agrees t → ItemsAgree t
-  unfolding numbersFit answersFit liveNamed attributesAllowed waitersQueued queuesWait queuesOrdered queuedAtZero binariesRight othersRight
+  unfolding numbersFit answersFit liveNamed attributesAllowed waitersQueued queuesWait queuedAtZero binariesRight othersRight
       maximaRight readyAtRest freeSlotsClear readySequenced sequenceReady
   agrees-items a =
       let numbers = and-both _ _ (a .numbers) in
@@ -148,7 +145,6 @@ module _ (t : Tables) where
             named = live-at (λ n s. isNamedRight s) (a .named) j h l;
             attributed = live-at (λ n s. allowed (s .attributes)) (a .attributed) j h l;
             waiting = live-at (λ n s. allWaitOn t (idOf n s) (s .queue)) (a .queues) j h l;
-            ordered = when-then _ _ (live-at (λ n s. when (byPriority (s .attributes)) (isOrdered t (s .queue))) (a .ordered) j h l);
             atZero = live-at (λ n s. isZeroWhereQueued s) (a .atZero) j h l;
             owned = when-then _ _ (live-at (λ n s. when (isBinary (s .attributes)) (isBinaryRight (length (t .tasks)) s)) (a .owned) j h l);
             unowned = λ b. when-then _ _ (live-at (λ n s. when (isnt (isBinary (s .attributes))) (isOtherRight s)) (a .unowned) j h l) (false-isnt _ b);
@@ -160,7 +156,7 @@ module _ (t : Tables) where
       }
 
   pub items-agree : ItemsAgree t → Agrees t
-  unfolding numbersFit answersFit liveNamed attributesAllowed waitersQueued queuesWait queuesOrdered queuedAtZero binariesRight othersRight
+  unfolding numbersFit answersFit liveNamed attributesAllowed waitersQueued queuesWait queuedAtZero binariesRight othersRight
       maximaRight readyAtRest freeSlotsClear readySequenced sequenceReady
   items-agree a =
       record {
@@ -171,7 +167,6 @@ module _ (t : Tables) where
         attributed = each (λ n s. allowed (s .attributes)) (λ j h l. live j h l .attributed);
         waiters = all-of _ _ (λ i h. then-when _ _ (a .task i h .waiter));
         queues = each (λ n s. allWaitOn t (idOf n s) (s .queue)) (λ j h l. live j h l .waiting);
-        ordered = each (λ n s. when (byPriority (s .attributes)) (isOrdered t (s .queue))) (λ j h l. then-when _ _ (live j h l .ordered));
         atZero = each (λ n s. isZeroWhereQueued s) (λ j h l. live j h l .atZero);
         owned = each (λ n s. when (isBinary (s .attributes)) (isBinaryRight (length (t .tasks)) s)) (λ j h l. then-when _ _ (live j h l .owned));
         unowned = each (λ n s. when (isnt (isBinary (s .attributes))) (isOtherRight s)) (λ j h l. then-when _ _ (λ b. live j h l .unowned (isnt-false _ b)));

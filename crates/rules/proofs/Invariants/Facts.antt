@@ -11,10 +11,9 @@ use lib.ListN.{length, getD, List·getD-eq-default}
 use Rattle.laws.specs.Choose.{choose, _and_, _or_, bit}
 use Rattle.laws.proofs.Choose.{tested, never, choose-cases}
 use Rattle.rules.specs.declared.Task.{Task}
-use Rattle.rules.specs.Numbers.{maxPriority, maxGeneration, maxNumber, allowed, byPriority, isBinary, isSimple, classMaximum}
-use Rattle.rules.specs.Machine.{Slot, Tables, noTask, freeSlot, waits, isLive, urgency, idOf}
+use Rattle.rules.specs.Numbers.{maxPriority, maxGeneration, maxNumber, allowed, isBinary, isSimple, classMaximum}
+use Rattle.rules.specs.Machine.{Slot, Tables, noTask, freeSlot, waits, isLive, idOf}
 use Rattle.rules.specs.Agreement.{occurs, isReadyTask, answerFits, sizesFit}
-use Rattle.rules.proofs.Invariants.Lists.{Ascending}
 
 -- counted from 0
 abbrev pub nthTask : Tables → ℕ → Task
@@ -59,13 +58,12 @@ pub record MaximumFits (s : Slot) : Type 0 where
   pub most : s .maximum ≤ classMaximum (s .attributes)
   pub count : s .count ≤ s .maximum
 
--- what is true of a live slot, with the urgencies u of N tasks
-pub record LiveFits (N : ℕ) (u : ℕ → ℕ) (s : Slot) : Type 0 where
+-- what is true of a live slot, with N tasks
+pub record LiveFits (N : ℕ) (s : Slot) : Type 0 where
   pub generation : 1 ≤ s .generation
   pub named : 1 ≤ s .name
   pub attributed : allowed (s .attributes) ≡ true
   pub entries : occurs 0 (s .queue) ≡ 0
-  pub ordered : byPriority (s .attributes) ≡ true → Ascending u 0 (s .queue)
   pub atZero : 1 ≤ length (s .queue) → s .count ≡ 0
   pub owned : isBinary (s .attributes) ≡ true → Unheld s ⊎ Held N s
   pub unowned : isBinary (s .attributes) ≡ false → Unowned s
@@ -82,13 +80,13 @@ pub record FreeFits (s : Slot) : Type 0 where
   pub queue : length (s .queue) ≡ 0
 
 -- of each slot
-pub record SlotFits (N : ℕ) (u : ℕ → ℕ) (s : Slot) : Type 0 where
+pub record SlotFits (N : ℕ) (s : Slot) : Type 0 where
   pub generation : s .generation ≤ maxGeneration
   pub live : s .live ≤ 1
   pub name : s .name ≤ maxNumber
   pub count : s .count ≤ maxNumber
   pub nest : s .nest ≤ maxNumber
-  pub whenLive : isLive s ≡ true → LiveFits N u s
+  pub whenLive : isLive s ≡ true → LiveFits N s
   pub whenFree : isLive s ≡ false → FreeFits s
 
 -- an identifier is that of a live slot
@@ -110,7 +108,7 @@ pub record Facts (t : Tables) : Type 0 where
   pub sizes : sizesFit t ≡ true
   pub urgent : (i : ℕ) → i < length (t .tasks) → (1 ≤ nthTask t i .priority) × (nthTask t i .priority ≤ maxPriority)
   pub tasks : (i : ℕ) → TaskFits (nthTask t i)
-  pub slots : (j : ℕ) → SlotFits (length (t .tasks)) (urgency t) (nthSlot t j)
+  pub slots : (j : ℕ) → SlotFits (length (t .tasks)) (nthSlot t j)
   pub linked : Linked (nthTask t) (nthSlot t)
   -- a task stands in the sequence once if it is ready, else not at all
   pub ready : (q : ℕ) → occurs q (t .ready) ≡ bit (isReadyTask t q)
@@ -121,8 +119,8 @@ pub none-fits : TaskFits noTask
 unfolding choose
 none-fits = record { answer = refl; awaited = omega arith; ticks = omega arith; atRest = λ e. (refl, refl) }
 
-pub free-fits : (N : ℕ) (u : ℕ → ℕ) (g : ℕ) → g ≤ maxGeneration → SlotFits N u (freeSlot g)
-free-fits N u g h =
+pub free-fits : (N : ℕ) (g : ℕ) → g ≤ maxGeneration → SlotFits N (freeSlot g)
+free-fits N g h =
     record {
       generation = h;
       live = omega arith;
@@ -137,8 +135,8 @@ free-fits N u g h =
 pub class-within : (a : ℕ) → classMaximum a ≤ maxNumber
 class-within a = choose-cases (λ (n : ℕ). n ≤ maxNumber) (isBinary a or isSimple a) 1 maxNumber (λ e. omega arith) (λ e. omega arith)
 
-pub maximum-within : (N : ℕ) (u : ℕ → ℕ) (s : Slot) → SlotFits N u s → s .maximum ≤ maxNumber
-maximum-within N u s f =
+pub maximum-within : (N : ℕ) (s : Slot) → SlotFits N s → s .maximum ≤ maxNumber
+maximum-within N s f =
     ⊎-elim (λ (l : isLive s ≡ true). omega (arith, f .whenLive l .maximum .most, class-within (s .attributes)))
     (λ (l : isLive s ≡ false). omega (arith, f .whenFree l .maximum)) (tested (isLive s))
 

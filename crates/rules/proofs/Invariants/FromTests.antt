@@ -11,9 +11,9 @@ use Rattle.laws.specs.Choose.{bit}
 use Rattle.laws.proofs.Choose.{tested, never, and-both, or-either, when-then, isnt-false}
 use Rattle.laws.proofs.All.{all-at}
 use Rattle.rules.specs.Numbers.{maxPriority, isBinary}
-use Rattle.rules.specs.Machine.{Tables, noTask, freeSlot, slotOf, waits, isLive, urgency, idOf, names}
+use Rattle.rules.specs.Machine.{Tables, noTask, freeSlot, slotOf, waits, isLive, idOf, names}
 use Rattle.rules.specs.Agreement.{Agrees, isWaiter, isReadyTask, occurs}
-use Rattle.rules.proofs.Invariants.Lists.{ascending-of, bit-yes, bit-no, occurs-not}
+use Rattle.rules.proofs.Invariants.Lists.{bit-yes, bit-no, occurs-not}
 use Rattle.rules.proofs.Invariants.Agreeing.{LiveAgrees, ItemsAgree, sizes-within, agrees-items}
 use Rattle.rules.proofs.Invariants.Facts.{nthTask, nthSlot, waitsOn, TaskFits, Unheld, Held, Unowned, MaximumFits, LiveFits, FreeFits, SlotFits, Names}
 use Rattle.rules.proofs.Invariants.Facts.{Counted, Facts, none-fits, free-fits, everywhere, waits-within, live-within}
@@ -79,7 +79,7 @@ module _ (t : Tables) (a : ItemsAgree t) where
         let g = and-both _ _ (f .0) in
         record { least = leb-true _ _ (g .0); most = leb-true _ _ (g .1); count = leb-true _ _ (f .1) }
 
-    slot-live : isLive (nthSlot t j) ≡ true → LiveFits (length (t .tasks)) (urgency t) (nthSlot t j)
+    slot-live : isLive (nthSlot t j) ≡ true → LiveFits (length (t .tasks)) (nthSlot t j)
     slot-live l =
         let n = and-both _ _ (live l .named) in
         let unnamed : nthSlot t j .name ≡ 0 → ⊥ = eqb-false _ _ (isnt-false _ (n .1)) in
@@ -88,7 +88,6 @@ module _ (t : Tables) (a : ItemsAgree t) where
           named = omega arith;
           attributed = live l .attributed;
           entries = occurs-not (leb 1) 0 refl (nthSlot t j .queue) (λ k b. and-both _ _ (and-both _ _ (all-at _ _ (live l .waiting) k b) .0) .0);
-          ordered = λ b. ascending-of (urgency t) 0 (nthSlot t j .queue) (λ k. omega arith) (λ k b′. leb-true _ _ (all-at _ _ (live l .ordered b) k b′));
           atZero = λ q. eqb-true _ _ (when-then _ _ (live l .atZero) (le-leb _ _ q));
           owned = slot-owned l;
           unowned = slot-unowned l;
@@ -113,7 +112,7 @@ module _ (t : Tables) (a : ItemsAgree t) where
           queue = eqb-true _ _ (e₆ .1);
         }
 
-    slot-fits : SlotFits (length (t .tasks)) (urgency t) (nthSlot t j)
+    slot-fits : SlotFits (length (t .tasks)) (nthSlot t j)
     slot-fits =
         let e₁ = and-both _ _ (a .slot j h .numbers) in
         let e₂ = and-both _ _ (e₁ .1) in
@@ -173,7 +172,7 @@ module _ (t : Tables) (a : ItemsAgree t) where
         sizes = a .sizes;
         urgent = urgent;
         tasks = everywhere TaskFits (t .tasks) noTask none-fits task-fits;
-        slots = everywhere (SlotFits (length (t .tasks)) (urgency t)) (t .slots) (freeSlot 0) (free-fits _ _ 0 (omega arith)) slot-fits;
+        slots = everywhere (SlotFits (length (t .tasks))) (t .slots) (freeSlot 0) (free-fits _ 0 (omega arith)) slot-fits;
         linked = record { counted = counted; named = λ i w. named-of t (nthTask t i .awaited) (waiter-once i w .0) };
         ready = ready;
       }

@@ -1,4 +1,4 @@
--- Laws of lists by their places, of how often a number stands in a list, and of lists in order.
+-- Laws of lists by their places, and of how often a number stands in a list.
 use mathlib.Core.Path.{_≡_, refl, sym, subst, _∙_}
 use mathlib.Core.Bool.{Bool, true, false}
 use mathlib.Core.List.{List, [], _∷_, _++_, map}
@@ -19,7 +19,7 @@ use Rattle.rules.specs.declared.Task.{Task}
 use Rattle.rules.specs.Numbers.{within}
 use Rattle.rules.specs.Machine.{noTask}
 use Rattle.rules.specs.Agreement.{occurs}
-use Rattle.rules.specs.Semaphore.{ahead, insertAt}
+use Rattle.rules.specs.Semaphore.{insertAt, removeAt}
 use Rattle.rules.specs.Calls.{upTo, without, expires, timedOut}
 
 -- ---- places
@@ -104,15 +104,20 @@ occurs-insert q x zero xs = occurs-cons q x xs
 occurs-insert q x (suc k) [] = occurs-cons q x []
 occurs-insert q x (suc k) (y ∷ ys) = omega (arith, occurs-cons q y (insertAt k x ys), occurs-cons q y ys, occurs-insert q x k ys)
 
--- the first and the others
-pub occurs-first : (q : ℕ) (xs : List ℕ) → 1 ≤ length xs → occurs q xs ≡ bit (eqb q (getD xs 0 0)) + occurs q (drop 1 xs)
-occurs-first q [] h = absurd (not-suc-le-zero h)
-occurs-first q (x ∷ xs) h = occurs-cons q x xs
-
 -- one list behind another
 pub occurs-append : (q : ℕ) (xs ys : List ℕ) → occurs q (xs ++ ys) ≡ occurs q xs + occurs q ys
 occurs-append q [] ys = omega (arith, occurs-none q)
 occurs-append q (x ∷ xs) ys = omega (arith, occurs-cons q x (xs ++ ys), occurs-cons q x xs, occurs-append q xs ys)
+
+-- a task that joins at the rear
+pub occurs-rear : (q x : ℕ) (xs : List ℕ) → occurs q (xs ++ x ∷ []) ≡ bit (eqb q x) + occurs q xs
+occurs-rear q x xs = omega (arith, occurs-append q xs (x ∷ []), occurs-cons q x [], occurs-none q)
+
+-- the entry at a place and the others
+pub occurs-remove : (q k : ℕ) (xs : List ℕ) → k < length xs → occurs q xs ≡ bit (eqb q (getD xs k 0)) + occurs q (removeAt k xs)
+occurs-remove q k [] h = absurd (not-suc-le-zero h)
+occurs-remove q zero (x ∷ xs) h = occurs-cons q x xs
+occurs-remove q (suc k) (x ∷ xs) h = omega (arith, occurs-cons q x xs, occurs-cons q x (removeAt k xs), occurs-remove q k xs (omega arith))
 
 -- a sequence without task c
 pub occurs-without : (q c : ℕ) (xs : List ℕ) → occurs q (without c xs) ≡ choose (eqb q c) 0 (occurs q xs)
@@ -201,41 +206,3 @@ timed-at (v ∷ vs) m (suc i) q s =
     let rest = timed-at vs (suc m) i q (omega arith) in
     choose-cases (λ (l : List ℕ). occurs q l ≡ bit (expires (getD vs i noTask))) (expires v) (m ∷ timedOut vs (suc m)) (timedOut vs (suc m))
     (λ e. omega (arith, rest, occurs-cons q m (timedOut vs (suc m)), bit-no (eqb q m) (ne-eqb q m (λ (z : q ≡ m). omega arith)))) (λ e. rest)
-
--- ---- lists in order
-
--- numbers in order of urgency, none more urgent than `low`
-abbrev pub Ascending : (ℕ → ℕ) → ℕ → List ℕ → Type 0
-Ascending u low [] = Unit {0}
-Ascending u low (x ∷ xs) = (low ≤ u x) × Ascending u (u x) xs
-
-module _ (u : ℕ → ℕ) where
-  pub ascending-lower : (low low′ : ℕ) (xs : List ℕ) → low′ ≤ low → Ascending u low xs → Ascending u low′ xs
-  ascending-lower low low′ [] h a = tt
-  ascending-lower low low′ (x ∷ xs) h a = let l : low ≤ u x = a .0 in (omega arith, a .1)
-
-  pub ascending-rest : (low : ℕ) (xs : List ℕ) → Ascending u low xs → Ascending u low (drop 1 xs)
-  ascending-rest low [] a = tt
-  ascending-rest low (x ∷ xs) a = ascending-lower (u x) low xs (a .0) (a .1)
-
-  -- a task that joins behind all of equal or more urgent priority
-  pub ascending-insert : (q low : ℕ) (xs : List ℕ) → low ≤ u q → Ascending u low xs → Ascending u low (insertAt (ahead u (u q) xs) q xs)
-  unfolding ahead
-  ascending-insert q low [] h a = (h, tt)
-  ascending-insert q low (x ∷ xs) h a =
-      choose-cases (λ (k : ℕ). Ascending u low (insertAt k q (x ∷ xs))) (leb (u x) (u q)) (suc (ahead u (u q) xs)) 0
-      (λ e. (a .0, ascending-insert q (u x) xs (leb-true (u x) (u q) e) (a .1)))
-      (λ e. let l : u q < u x = leb-false (u x) (u q) e in (h, (omega arith, a .1)))
-
-  -- by neighbours
-  pub ascending-at : (low : ℕ) (xs : List ℕ) → Ascending u low xs → (k : ℕ) → k < pred (length xs) → u (getD xs k 0) ≤ u (getD xs (suc k) 0)
-  ascending-at low [] a k h = absurd (not-suc-le-zero h)
-  ascending-at low (x ∷ []) a k h = absurd (not-suc-le-zero h)
-  ascending-at low (x ∷ y ∷ ys) a zero h = a .1 .0
-  ascending-at low (x ∷ y ∷ ys) a (suc k) h = ascending-at (u x) (y ∷ ys) (a .1) k (le-of-suc-le-suc h)
-
-  pub ascending-of : (low : ℕ) (xs : List ℕ) → (1 ≤ length xs → low ≤ u (getD xs 0 0))
-      → ((k : ℕ) → k < pred (length xs) → u (getD xs k 0) ≤ u (getD xs (suc k) 0)) → Ascending u low xs
-  ascending-of low [] first f = tt
-  ascending-of low (x ∷ []) first f = (first (omega arith), tt)
-  ascending-of low (x ∷ y ∷ ys) first f = (first (omega arith), ascending-of (u x) (y ∷ ys) (λ h. f 0 (omega arith)) (λ k h. f (suc k) (omega arith)))

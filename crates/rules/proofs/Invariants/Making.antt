@@ -61,7 +61,7 @@ module _ (slots : ℕ) (priorities : List ℕ) where
             let e = and-both _ _ (urgent i (rw tasks-new at h)) in
             rw (task-new i) (leb-true _ _ (e .0), leb-true _ _ (e .1));
         tasks = λ i. rw (task-new i) (newTask-fits (getD priorities i 0));
-        slots = λ j. rw (slot-new j) (free-fits _ _ 0 (omega arith));
+        slots = λ j. rw (slot-new j) (free-fits _ 0 (omega arith));
         linked =
             subst₂ Linked (fun-ext (λ i. sym (task-new i))) (fun-ext (λ j. sym (slot-new j)))
             (record { counted = λ i j l. never l refl; named = λ i w. never w refl });
@@ -158,6 +158,6 @@ create-kept t caller name count attributes maximum name-fits f =
         let number : n ≡ suc (o .place) = omega (arith, o .number) in
         subst (λ (n : ℕ). Facts (putSlot t n (made n))) (sym number)
         (created t f (o .place) (made (suc (o .place))) (o .within) (o .free)
-        (new-fits _ _ _ caller name count attributes maximum (o .generation) (k .who .first) (k .who .last) (k .named) name-fits (k .right) (k .least) (k .most)
+        (new-fits _ _ caller name count attributes maximum (o .generation) (k .who .first) (k .who .last) (k .named) name-fits (k .right) (k .least) (k .most)
         (k .below))
         (new-queue _ caller name count attributes maximum))

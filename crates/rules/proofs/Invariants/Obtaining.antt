@@ -12,11 +12,11 @@ use Rattle.rules.specs.declared.Task.{Task}
 use Rattle.rules.specs.declared.Wait.{Wait}
 use Rattle.rules.specs.declared.Wait.the-variants.{Poll, Forever, Ticks}
 use Rattle.rules.specs.Numbers.{maxNumber, isBinary}
-use Rattle.rules.specs.Machine.{Slot, Tables, taskOf, slotOf, putSlot, isLive, urgency, idOf, names, slotNamed}
-use Rattle.rules.specs.Semaphore.{ticksOf, polls, placeOf, ownedBy, Taken, takeStep}
+use Rattle.rules.specs.Machine.{Slot, Tables, taskOf, slotOf, putSlot, isLive, idOf, names, slotNamed}
+use Rattle.rules.specs.Semaphore.{ticksOf, polls, ownedBy, Taken, takeStep}
 use Rattle.rules.specs.Calls.{Outcome, answered, beginWait, blocked, obtainRefusal, obtain}
 use Rattle.rules.specs.Fits.{waitFits}
-use Rattle.rules.proofs.Invariants.Lists.{occurs-insert}
+use Rattle.rules.proofs.Invariants.Lists.{occurs-rear}
 use Rattle.rules.proofs.Invariants.Facts.{nthTask, nthSlot, TaskFits, SlotFits, Facts}
 use Rattle.rules.proofs.Invariants.PartsKept.{replaced, waited}
 use Rattle.rules.proofs.Invariants.Slots.{take-fits, nest-fits, join-fits}
@@ -51,32 +51,29 @@ module _ (t : Tables) (f : Facts t) (c j id : ℕ) (wait : Wait) (who : Caller t
   waits-now : (s : Slot) → Facts (beginWait (putSlot t (suc j) s) (suc c) (blocked (nthTask t c) id wait)) → Keeps (record { status = 100; slot = s })
   waits-now s kept e = subst (λ (o : Outcome). Facts (o .tables)) (sym (if-yes _ _ refl)) kept
 
-  pub take-kept : Keeps (takeStep (nthSlot t j) (suc c) (placeOf (urgency t) (nthSlot t j) (suc c)) wait)
+  pub take-kept : Keeps (takeStep (nthSlot t j) (suc c) wait)
   unfolding takeStep
   take-kept =
       choose-cases Keeps (leb 1 (nthSlot t j .count)) _ _
-      (λ e. got _ (replaced t f j _ l (take-fits N u s fits l (suc c) (who .first) (who .last) (leb-true _ _ e)) refl refl l))
+      (λ e. got _ (replaced t f j _ l (take-fits N s fits l (suc c) (who .first) (who .last) (leb-true _ _ e)) refl refl l))
       (λ none. choose-cases Keeps (isBinary (nthSlot t j .attributes) and ownedBy (nthSlot t j) (suc c)) _ _
       (λ own. choose-cases Keeps (eqb (nthSlot t j .nest) maxNumber) _ _ (λ e. refused _)
       (λ e. got _ (replaced t f j _ l
-      (nest-fits N u s fits l (suc c) (who .first) (who .last) (and-both _ _ own .0) (eqb-true _ _ (and-both _ _ (and-both _ _ own .1) .0))
+      (nest-fits N s fits l (suc c) (who .first) (who .last) (and-both _ _ own .0) (eqb-true _ _ (and-both _ _ (and-both _ _ own .1) .0))
       (eqb-false _ _ e)) refl refl l)))
       (λ other. choose-cases Keeps (polls wait) _ _ (λ e. refused _)
       (λ e. waits-now _
       (waited t f c j (blocked (nthTask t c) id wait) _ (who .last) (who .ready) l refl is refl (blocked-fits (nthTask t c) id wait i n)
-      (join-fits N u s fits l (suc c) (who .first) (who .last) (leb-false _ _ none) other) l refl
-      (λ k. occurs-insert (suc k) (suc c) (placeOf (urgency t) (nthSlot t j) (suc c)) (nthSlot t j .queue))))))
+      (join-fits N s fits l (suc c) (who .first) (who .last) (leb-false _ _ none) other) l refl
+      (λ k. occurs-rear (suc k) (suc c) (nthSlot t j .queue))))))
     where
       N : ℕ
       N = length (t .tasks)
 
-      u : ℕ → ℕ
-      u = urgency t
-
       s : Slot
       s = nthSlot t j
 
-      fits : SlotFits N u s
+      fits : SlotFits N s
       fits = f .slots j
 
 pub obtain-kept : (t : Tables) (caller id : ℕ) (wait : Wait) → id ≤ maxNumber → waitFits wait ≡ true → Facts t → Facts (obtain t caller id wait .tables)
@@ -92,7 +89,7 @@ obtain-kept t caller id wait i n f =
     (at caller (who .0) (s .place) (s .live) (s .is)) (granted .0))
   where
     taken : ℕ → ℕ → Taken
-    taken m caller = takeStep (slotOf t m) caller (placeOf (urgency t) (slotOf t m) caller) wait
+    taken m caller = takeStep (slotOf t m) caller wait
 
     refusal : ℕ → ℕ
     refusal m = choose (names t id) (choose (eqb (taken m caller .status) 13) 13 0) 4

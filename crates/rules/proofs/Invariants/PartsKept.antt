@@ -1,9 +1,9 @@
 -- The facts are kept by what the calls are made of.
-use mathlib.Core.Path.{_≡_, refl, sym, subst, subst₂, fun-ext, ap, ap₂, _∙_}
+use mathlib.Core.Path.{_≡_, refl, sym, subst, ap, ap₂, _∙_}
 use mathlib.Core.Bool.{Bool, true, false}
 use mathlib.Core.List.{List, [], _++_}
 use mathlib.Core.Logic.{_≢_, ⊎-elim}
-use Prim.Native.Nat.{ℕ, zero, suc, pred, _+_, _≤_, _<_}
+use Prim.Native.Nat.{ℕ, zero, suc, _+_, _≤_, _<_}
 use native.Mathlib.Omega.{arith}
 use lib.Dec.{leb, eqb}
 use lib.ListN.{length, getD, length-set}
@@ -12,7 +12,7 @@ use Rattle.laws.specs.Choose.{choose, bit, _and_, isnt}
 use Rattle.laws.proofs.Choose.{tested, and-both, both-and, false-isnt, if-yes, if-no, if-eq, if-ne, choose-cases}
 use Rattle.rules.specs.declared.Task.{Task}
 use Rattle.rules.specs.Numbers.{within}
-use Rattle.rules.specs.Machine.{Slot, Tables, noTask, freeSlot, putSlot, putTask, waits, isLive, urgency, idOf}
+use Rattle.rules.specs.Machine.{Slot, Tables, noTask, freeSlot, putSlot, putTask, waits, isLive, idOf}
 use Rattle.rules.specs.Agreement.{isEnding, isReadyTask, occurs, sizesFit}
 use Rattle.rules.specs.Calls.{readied, wakeAll, without, beginWait}
 use Rattle.rules.proofs.Invariants.Lists.{set-all, set-updated, Updated, updated-cases, bit-yes, bit-no, occurs-none, occurs-append}
@@ -26,7 +26,7 @@ use Rattle.rules.proofs.Invariants.Waking.{wakeAll-task, wokenOf}
 -- tables of the same sizes and priorities
 pub facts-step : (t t′ : Tables) → Facts t → length (t′ .tasks) ≡ length (t .tasks) → length (t′ .slots) ≡ length (t .slots)
     → ((i : ℕ) → nthTask t′ i .priority ≡ nthTask t i .priority)
-    → ((i : ℕ) → TaskFits (nthTask t′ i)) → ((j : ℕ) → SlotFits (length (t .tasks)) (urgency t) (nthSlot t′ j)) → Linked (nthTask t′) (nthSlot t′)
+    → ((i : ℕ) → TaskFits (nthTask t′ i)) → ((j : ℕ) → SlotFits (length (t .tasks)) (nthSlot t′ j)) → Linked (nthTask t′) (nthSlot t′)
     → ((q : ℕ) → occurs q (t′ .ready) ≡ bit (isReadyTask t′ q)) → Facts t′
 unfolding sizesFit
 facts-step t t′ f N S same tasks slots linked ready =
@@ -34,7 +34,7 @@ facts-step t t′ f N S same tasks slots linked ready =
       sizes = rw (N, S) (f .sizes);
       urgent = λ i h. rw (same i) (f .urgent i (rw N at h));
       tasks = tasks;
-      slots = λ j. subst₂ (λ (N : ℕ) (u : ℕ → ℕ). SlotFits N u (nthSlot t′ j)) (sym N) (fun-ext (λ q. sym (same (pred q)))) (slots j);
+      slots = λ j. subst (λ (N : ℕ). SlotFits N (nthSlot t′ j)) (sym N) (slots j);
       linked = linked;
       ready = ready;
     }
@@ -67,7 +67,7 @@ module _ (t : Tables) (f : Facts t) where
 
   -- the tasks ws leave the queue of slot j and are woken; the slot becomes s
   module _ (j : ℕ) (s : Slot) (ws : List ℕ) (a : ℕ) (l : isLive (nthSlot t j) ≡ true) (ends : isEnding a ≡ true)
-      (fits : SlotFits (length (t .tasks)) (urgency t) s)
+      (fits : SlotFits (length (t .tasks)) s)
       (generation : s .generation ≡ nthSlot t j .generation) (parts : (q : ℕ) → occurs q (nthSlot t j .queue) ≡ occurs q ws + occurs q (s .queue))
       (stays : (i : ℕ) → 1 ≤ occurs (suc i) (s .queue) → isLive s ≡ true) where
     waiter : (i : ℕ) → 1 ≤ occurs (suc i) ws → waitsOn (nthTask t i) (idOf (suc j) (nthSlot t j)) ≡ true
@@ -160,25 +160,25 @@ module _ (t : Tables) (f : Facts t) where
         (leb 1 (occurs (suc i) ws)) _ _ (λ e. refl) (λ e. refl))
         (λ i. subst TaskFits (sym (task-after i))
         (choose-cases TaskFits (leb 1 (occurs (suc i) ws)) _ _ (λ e. readied-fits (nthTask t i) a ends) (λ e. f .tasks i)))
-        (λ k. subst (λ (ss : List Slot). SlotFits (length (t .tasks)) (urgency t) (getD ss k (freeSlot 0))) (sym (wakeAll-slots ws (putSlot t (suc j) s) a))
-        (set-all (SlotFits (length (t .tasks)) (urgency t)) (t .slots) j s (freeSlot 0) (f .slots) fits k))
+        (λ k. subst (λ (ss : List Slot). SlotFits (length (t .tasks)) (getD ss k (freeSlot 0))) (sym (wakeAll-slots ws (putSlot t (suc j) s) a))
+        (set-all (SlotFits (length (t .tasks))) (t .slots) j s (freeSlot 0) (f .slots) fits k))
         (subst (λ (ss : List Slot). Linked (nthTask (wakeAll (putSlot t (suc j) s) ws a)) (λ k. getD ss k (freeSlot 0)))
         (sym (wakeAll-slots ws (putSlot t (suc j) s) a)) linked-after)
         (λ q. ap (occurs q) (wakeAll-ready ws (putSlot t (suc j) s) a) ∙ ready-after q)
 
   -- slot j becomes s, with the queue as it was
-  pub replaced : (j : ℕ) (s : Slot) → isLive (nthSlot t j) ≡ true → SlotFits (length (t .tasks)) (urgency t) s
+  pub replaced : (j : ℕ) (s : Slot) → isLive (nthSlot t j) ≡ true → SlotFits (length (t .tasks)) s
       → s .generation ≡ nthSlot t j .generation → s .queue ≡ nthSlot t j .queue → isLive s ≡ true → Facts (putSlot t (suc j) s)
   unfolding wakeAll
   replaced j s l fits generation queue l′ =
       roused j s [] 0 l obtained-ends fits generation (λ q. omega (arith, occurs-none q, ap (occurs q) queue)) (λ i h. l′)
 
   -- a free slot comes to life as s
-  pub created : (j : ℕ) (s : Slot) → j < length (t .slots) → isLive (nthSlot t j) ≡ false → SlotFits (length (t .tasks)) (urgency t) s
+  pub created : (j : ℕ) (s : Slot) → j < length (t .slots) → isLive (nthSlot t j) ≡ false → SlotFits (length (t .tasks)) s
       → length (s .queue) ≡ 0 → Facts (putSlot t (suc j) s)
   created j s h free fits empty =
       facts-step t (putSlot t (suc j) s) f refl (length-set (t .slots) j s) (λ i. refl) (f .tasks)
-      (set-all (SlotFits (length (t .tasks)) (urgency t)) (t .slots) j s (freeSlot 0) (f .slots) fits)
+      (set-all (SlotFits (length (t .tasks))) (t .slots) j s (freeSlot 0) (f .slots) fits)
       (opened (nthTask t) (nthSlot t) below (f .linked) (nthSlot (putSlot t (suc j) s)) j s (set-updated (t .slots) j s (freeSlot 0) h)
       (omega (arith, sizes-within t (f .sizes) .slots)) free empty)
       (f .ready)
@@ -186,14 +186,14 @@ module _ (t : Tables) (f : Facts t) where
   -- task c, which did not wait, leaves the sequence and joins the queue of slot j, which becomes s
   pub waited : (c j : ℕ) (v : Task) (s : Slot) → c < length (t .tasks) → waits (nthTask t c) ≡ false → isLive (nthSlot t j) ≡ true
       → waits v ≡ true → v .awaited ≡ idOf (suc j) (nthSlot t j) → v .priority ≡ nthTask t c .priority → TaskFits v
-      → SlotFits (length (t .tasks)) (urgency t) s → isLive s ≡ true → s .generation ≡ nthSlot t j .generation
+      → SlotFits (length (t .tasks)) s → isLive s ≡ true → s .generation ≡ nthSlot t j .generation
       → ((i : ℕ) → occurs (suc i) (s .queue) ≡ bit (eqb (suc i) (suc c)) + occurs (suc i) (nthSlot t j .queue))
       → Facts (beginWait (putSlot t (suc j) s) (suc c) v)
   waited c j v s h ready l w id p tfits fits l′ g queue =
       facts-step t after f (length-set (t .tasks) c v) (length-set (t .slots) j s)
       (λ i. updated-cases (λ i z. z .priority ≡ nthTask t i .priority) tasks i p (λ n. refl))
       (set-all TaskFits (t .tasks) c v noTask (f .tasks) tfits)
-      (set-all (SlotFits (length (t .tasks)) (urgency t)) (t .slots) j s (freeSlot 0) (f .slots) fits)
+      (set-all (SlotFits (length (t .tasks))) (t .slots) j s (freeSlot 0) (f .slots) fits)
       (joined (nthTask t) (nthSlot t) below (f .linked) (nthTask (putTask t (suc c) v)) (nthSlot (putSlot t (suc j) s)) c j v s
       tasks (set-updated (t .slots) j s (freeSlot 0) (live-within t j l)) ready l w id l′ g queue)
       sequence

@@ -2,19 +2,20 @@
 use mathlib.Core.Path.{_≡_, refl, sym, subst}
 use mathlib.Core.Bool.{true, false}
 use mathlib.Core.List.{[], _∷_}
-use Prim.Native.Nat.{ℕ, zero, suc, _+_, _≤_}
+use Prim.Native.Nat.{ℕ, zero, suc, _+_, _≤_, _<_}
 use native.Mathlib.Omega.{arith}
 use lib.Dec.{leb, eqb}
-use lib.ListN.{length, getD, drop}
+use lib.ListN.{length, getD}
 use borrow.Author.Tests.{eqb-false, leb-true, leb-false, ne-eqb}
 use Rattle.laws.specs.Choose.{choose, bit, _and_, isnt}
 use Rattle.laws.proofs.Choose.{if-yes, if-no, and-both, choose-cases}
 use Rattle.rules.specs.Numbers.{isBinary}
 use Rattle.rules.specs.Machine.{Slot, Tables, slotOf, putSlot, isLive, urgency, idOf, names, slotNamed}
 use Rattle.rules.specs.Agreement.{occurs}
-use Rattle.rules.specs.Semaphore.{ownedBy, handed, Given, giveStep, passStep}
-use Rattle.rules.specs.Calls.{answered, wake, wakeAll, releaseRefusal, release}
-use Rattle.rules.proofs.Invariants.Lists.{occurs-at, occurs-cons, occurs-none, occurs-first}
+use Rattle.rules.specs.Semaphore.{ownedBy, removeAt, handed, Given, giveStep, passStep}
+use Rattle.rules.specs.Calls.{answered, wake, wakeAll, giveOf, releaseRefusal, release}
+use Rattle.rules.proofs.Invariants.Lists.{occurs-at, occurs-cons, occurs-none, occurs-remove}
+use Rattle.rules.proofs.Serving.{served-within}
 use Rattle.rules.proofs.Invariants.Facts.{nthTask, nthSlot, waitsOn, SlotFits, Facts, waits-within}
 use Rattle.rules.proofs.Invariants.Links.{waits-there, once}
 use Rattle.rules.proofs.Invariants.Waking.{obtained-ends}
@@ -34,51 +35,52 @@ module _ (t : Tables) (f : Facts t) (j : ℕ) (l : isLive (nthSlot t j) ≡ true
   given-back : (s : Slot) → Facts (putSlot t (suc j) s) → Keeps (record { status = 0; slot = s; woken = 0 })
   given-back s kept e = subst Facts (sym (if-yes _ _ refl)) kept
 
-  -- the first in the queue is woken
-  handed-on : (q : ℕ) → q ≡ getD (nthSlot t j .queue) 0 0 → 1 ≤ length (nthSlot t j .queue)
-      → Facts (after t (suc j) (record { status = 0; slot = handed (nthSlot t j) q; woken = q }))
-  unfolding wakeAll
-  handed-on zero is h =
-      absurd
-      (omega (arith, f .slots j .whenLive l .entries, subst (λ (q : ℕ). 1 ≤ occurs q (nthSlot t j .queue)) (sym is) (occurs-at (nthSlot t j .queue) 0 h)))
-  handed-on (suc i) is h =
-      subst Facts (sym (if-no _ _ (ne-eqb (suc i) 0 (omega arith))))
-      (roused t f j (handed (nthSlot t j) (suc i)) (suc i ∷ []) 0 l obtained-ends
-      (hand-fits (length (t .tasks)) (urgency t) (nthSlot t j) (f .slots j) l (suc i) is h (omega arith) (waits-within t i (and-both _ _ there .0))
-      (once (nthTask t) (nthSlot t) (below t f) (f .linked) i j l))
-      refl parts (λ k m. l))
-    where
-      there : waitsOn (nthTask t i) (idOf (suc j) (nthSlot t j)) ≡ true
-      there =
-          waits-there (nthTask t) (nthSlot t) (below t f) (f .linked) i j l
-          (subst (λ (q : ℕ). 1 ≤ occurs q (nthSlot t j .queue)) (sym is) (occurs-at (nthSlot t j .queue) 0 h))
+  -- the waiter at a place of the queue is woken
+  module _ (place : ℕ) (h : place < length (nthSlot t j .queue)) where
+    abbrev served : ℕ
+    served = getD (nthSlot t j .queue) place 0
 
-      parts : (q : ℕ) → occurs q (nthSlot t j .queue) ≡ occurs q (suc i ∷ []) + occurs q (drop 1 (nthSlot t j .queue))
-      parts q =
-          let first : occurs q (nthSlot t j .queue) ≡ bit (eqb q (suc i)) + occurs q (drop 1 (nthSlot t j .queue)) = rw is
-          (occurs-first q (nthSlot t j .queue) h) in
-          omega (arith, occurs-cons q (suc i) [], occurs-none q)
+    -- who stands in the queue is a task
+    handed-on : (q : ℕ) → served ≡ q → Facts (after t (suc j) (record { status = 0; slot = handed (nthSlot t j) place; woken = q }))
+    unfolding wakeAll
+    handed-on zero is =
+        absurd
+        (omega (arith, f .slots j .whenLive l .entries, subst (λ (q : ℕ). 1 ≤ occurs q (nthSlot t j .queue)) is (occurs-at (nthSlot t j .queue) place h)))
+    handed-on (suc i) is =
+        subst Facts (sym (if-no _ _ (ne-eqb (suc i) 0 (omega arith))))
+        (roused t f j (handed (nthSlot t j) place) (suc i ∷ []) 0 l obtained-ends
+        (hand-fits (length (t .tasks)) (nthSlot t j) (f .slots j) l place h (omega arith) (omega (arith, waits-within t i (and-both _ _ there .0)))
+        (rw is (once (nthTask t) (nthSlot t) (below t f) (f .linked) i j l)))
+        refl parts (λ k m. l))
+      where
+        there : waitsOn (nthTask t i) (idOf (suc j) (nthSlot t j)) ≡ true
+        there =
+            waits-there (nthTask t) (nthSlot t) (below t f) (f .linked) i j l
+            (subst (λ (q : ℕ). 1 ≤ occurs q (nthSlot t j .queue)) is (occurs-at (nthSlot t j .queue) place h))
 
-  pub give-kept : (caller : ℕ) → Keeps (giveStep (nthSlot t j) caller)
+        parts : (q : ℕ) → occurs q (nthSlot t j .queue) ≡ occurs q (suc i ∷ []) + occurs q (removeAt place (nthSlot t j .queue))
+        parts q =
+            let there : occurs q (nthSlot t j .queue) ≡ bit (eqb q (suc i)) + occurs q (removeAt place (nthSlot t j .queue)) = rw (← is)
+            (occurs-remove q place (nthSlot t j .queue) h) in
+            omega (arith, occurs-cons q (suc i) [], occurs-none q)
+
+  pub give-kept : (caller : ℕ) → Keeps (giveOf t (nthSlot t j) caller)
   unfolding giveStep passStep
   give-kept caller =
       choose-cases Keeps (isBinary (nthSlot t j .attributes) and isnt (ownedBy (nthSlot t j) caller)) _ _ (λ b e. absurd (omega arith))
       (λ b. choose-cases Keeps (isBinary (nthSlot t j .attributes) and leb 2 (nthSlot t j .nest)) _ _
-      (λ e. given-back _ (replaced t f j _ l (unnest-fits N u s fits l (and-both _ _ e .0) (leb-true _ _ (and-both _ _ e .1))) refl refl l))
-      (λ e. choose-cases Keeps (leb 1 (length (nthSlot t j .queue))) _ _ (λ q z. handed-on (getD (nthSlot t j .queue) 0 0) refl (leb-true _ _ q))
+      (λ e. given-back _ (replaced t f j _ l (unnest-fits N s fits l (and-both _ _ e .0) (leb-true _ _ (and-both _ _ e .1))) refl refl l))
+      (λ e. choose-cases Keeps (leb 1 (length (nthSlot t j .queue))) _ _ (λ q z. handed-on _ (served-within (urgency t) s (leb-true _ _ q)) _ refl)
       (λ q. choose-cases Keeps (eqb (nthSlot t j .count) (nthSlot t j .maximum)) _ _ (λ m e. absurd (omega arith))
-      (λ m. given-back _ (replaced t f j _ l (give-fits N u s fits l (empty q) (eqb-false _ _ m)) refl refl l)))))
+      (λ m. given-back _ (replaced t f j _ l (give-fits N s fits l (empty q) (eqb-false _ _ m)) refl refl l)))))
     where
       N : ℕ
       N = length (t .tasks)
 
-      u : ℕ → ℕ
-      u = urgency t
-
       s : Slot
       s = nthSlot t j
 
-      fits : SlotFits N u s
+      fits : SlotFits N s
       fits = f .slots j
 
       empty : leb 1 (length (nthSlot t j .queue)) ≡ false → length (nthSlot t j .queue) ≡ 0
@@ -87,9 +89,9 @@ module _ (t : Tables) (f : Facts t) (j : ℕ) (l : isLive (nthSlot t j) ≡ true
 pub release-kept : (t : Tables) (caller id : ℕ) → Facts t → Facts (release t caller id .tables)
 unfolding release releaseRefusal
 release-kept t caller id f =
-    unless-kept (releaseRefusal t caller id) t (answered 0 0 (after t (slotNamed t id) (giveStep (slotOf t (slotNamed t id)) caller))) f
+    unless-kept (releaseRefusal t caller id) t (answered 0 0 (after t (slotNamed t id) (giveOf t (slotOf t (slotNamed t id)) caller))) f
     (λ e.
-    let named = must (names t id) (giveStep (slotOf t (slotNamed t id)) caller .status) 4 (omega arith) (any-caller t caller _ e) in
+    let named = must (names t id) (giveOf t (slotOf t (slotNamed t id)) caller .status) 4 (omega arith) (any-caller t caller _ e) in
     let s = found t (f .sizes) id (named .0) in
-    subst (λ (m : ℕ). giveStep (slotOf t m) caller .status ≡ 0 → Facts (after t m (giveStep (slotOf t m) caller))) (sym (s .number))
+    subst (λ (m : ℕ). giveOf t (slotOf t m) caller .status ≡ 0 → Facts (after t m (giveOf t (slotOf t m) caller))) (sym (s .number))
     (give-kept t f (s .place) (s .live) caller) (named .1))

@@ -58,7 +58,7 @@ counts-all n (x ∷ xs) f =
     inside n x xs (h .0) (h .1) ∙ ap suc (counts-all n xs (λ k l. f (suc k) (omega arith)))
 
 -- no entry twice, so at most n; one task missing, so fewer
-counts-most : (n : ℕ) (xs : List ℕ) → ((q : ℕ) → occurs (suc q) xs ≤ 1) → counts n xs ≤ n
+pub counts-most : (n : ℕ) (xs : List ℕ) → ((q : ℕ) → occurs (suc q) xs ≤ 1) → counts n xs ≤ n
 unfolding counts
 counts-most zero xs f = omega arith
 counts-most (suc n) xs f = omega (arith, counts-most n xs f, f n)
@@ -86,14 +86,14 @@ counts-append (suc n) xs ys = omega (arith, counts-append n xs ys, occurs-append
 -- ---- a queue
 
 module _ (t : Tables) (f : Facts t) (j : ℕ) (l : isLive (nthSlot t j) ≡ true) where
-  -- a queue's entries are tasks of the N
+  -- who stands in a queue is a task of the N
+  pub waiter-within : (q : ℕ) → 1 ≤ occurs q (nthSlot t j .queue) → (1 ≤ q) × (q ≤ length (t .tasks))
+  waiter-within zero o = absurd (omega (arith, f .slots j .whenLive l .entries))
+  waiter-within (suc i) o =
+      (omega arith, waits-within t i (and-both _ _ (waits-there (nthTask t) (nthSlot t) (below t f) (f .linked) i j l o) .0))
+
   pub entry-within : (k : ℕ) → k < length (nthSlot t j .queue) → (1 ≤ getD (nthSlot t j .queue) k 0) × (getD (nthSlot t j .queue) k 0 ≤ length (t .tasks))
-  entry-within k h = go (getD (nthSlot t j .queue) k 0) (occurs-at (nthSlot t j .queue) k h)
-    where
-      go : (q : ℕ) → 1 ≤ occurs q (nthSlot t j .queue) → (1 ≤ q) × (q ≤ length (t .tasks))
-      go zero o = absurd (omega (arith, f .slots j .whenLive l .entries))
-      go (suc i) o =
-          (omega arith, waits-within t i (and-both _ _ (waits-there (nthTask t) (nthSlot t) (below t f) (f .linked) i j l o) .0))
+  entry-within k h = waiter-within (getD (nthSlot t j .queue) k 0) (occurs-at (nthSlot t j .queue) k h)
 
   all-once : (q : ℕ) → occurs (suc q) (nthSlot t j .queue) ≤ 1
   all-once q = once (nthTask t) (nthSlot t) (below t f) (f .linked) q j l

@@ -11,10 +11,10 @@ use borrow.Author.Tests.{eqb-true, ne-eqb}
 use Rattle.laws.specs.Choose.{choose, bit, _and_}
 use Rattle.laws.proofs.Choose.{tested, never, if-yes, if-no, and-both, both-and, choose-cases}
 use Rattle.rules.specs.declared.Task.{Task}
-use Rattle.rules.specs.Machine.{Slot, Tables, noTask, freeSlot, taskOf, waits, isLive, urgency}
+use Rattle.rules.specs.Machine.{Slot, Tables, noTask, freeSlot, taskOf, waits, isLive}
 use Rattle.rules.specs.Agreement.{isReadyTask, occurs}
 use Rattle.rules.specs.Calls.{expires, ticked, stillWaiting, tickedSlot, timedOut, tickedTables, tick}
-use Rattle.rules.proofs.Invariants.Lists.{Ascending, ascending-lower, bit-yes, bit-no, occurs-none, occurs-cons, occurs-append, getD-map}
+use Rattle.rules.proofs.Invariants.Lists.{bit-yes, bit-no, occurs-none, occurs-cons, occurs-append, getD-map}
 use Rattle.rules.proofs.Invariants.Lists.{timed-below, timed-at}
 use Rattle.rules.proofs.Invariants.Facts.{nthTask, nthSlot, TaskFits, Unheld, Held, SlotFits, Linked, Facts, waits-within}
 use Rattle.rules.proofs.Invariants.Links.{SameWait, ended}
@@ -106,29 +106,20 @@ module _ (t : Tables) where
       let h = still-length xs in
       choose-cases (λ (l : List ℕ). length l ≤ suc (length xs)) (expires (taskOf t x)) _ _ (λ e. omega (arith, h)) (λ e. omega (arith, h))
 
-  pub still-ascending : (u : ℕ → ℕ) (low : ℕ) (qs : List ℕ) → Ascending u low qs → Ascending u low (stillWaiting t qs)
-  unfolding stillWaiting
-  still-ascending u low [] a = tt
-  still-ascending u low (x ∷ xs) a =
-      let h = still-ascending u (u x) xs (a .1) in
-      choose-cases (Ascending u low) (expires (taskOf t x)) (stillWaiting t xs) (x ∷ stillWaiting t xs)
-      (λ e. ascending-lower u (u x) low (stillWaiting t xs) (a .0) h) (λ e. (a .0, h))
-
   -- ---- a slot
 
   pub ticked-free : tickedSlot t (freeSlot 0) ≡ freeSlot 0
   unfolding tickedSlot stillWaiting
   ticked-free = refl
 
-  pub tickedSlot-fits : (N : ℕ) (u : ℕ → ℕ) (s : Slot) → SlotFits N u s → SlotFits N u (tickedSlot t s)
+  pub tickedSlot-fits : (N : ℕ) (s : Slot) → SlotFits N s → SlotFits N (tickedSlot t s)
   unfolding tickedSlot
-  tickedSlot-fits N u s f = ⊎-elim live free (tested (isLive s))
+  tickedSlot-fits N s f = ⊎-elim live free (tested (isLive s))
     where
-      live : isLive s ≡ true → SlotFits N u (tickedSlot t s)
+      live : isLive s ≡ true → SlotFits N (tickedSlot t s)
       live l =
           let v = f .whenLive l in
-          counted-fits N u s f l _ _ _ (stillWaiting t (s .queue)) (v .maximum .count) (f .nest) (still-none 0 (s .queue) (v .entries))
-          (λ b. still-ascending u 0 (s .queue) (v .ordered b))
+          counted-fits N s f l _ _ _ (stillWaiting t (s .queue)) (v .maximum .count) (f .nest) (still-none 0 (s .queue) (v .entries))
           (λ h. v .atZero (omega (arith, still-length (s .queue))))
           (λ b. ⊎-elim (λ (z : Unheld s). inl (record { count = z .count; owner = z .owner; nest = z .nest }))
           (λ (z : Held N s). inr
@@ -136,7 +127,7 @@ module _ (t : Tables) where
           (v .owned b))
           (λ b. let z = v .unowned b in record { owner = z .owner; nest = z .nest; simple = z .simple })
 
-      free : isLive s ≡ false → SlotFits N u (tickedSlot t s)
+      free : isLive s ≡ false → SlotFits N (tickedSlot t s)
       free l =
           let z = f .whenFree l in
           record {
@@ -166,7 +157,7 @@ tick-kept t f =
     facts-step t _ f (length-map (t .tasks) ticked) (length-map (t .slots) (tickedSlot t))
     (λ i. ap (λ (v : Task). v .priority) (task-after i) ∙ ticked-priority (nthTask t i))
     (λ i. subst TaskFits (sym (task-after i)) (ticked-fits (nthTask t i) (f .tasks i)))
-    (λ j. subst (SlotFits (length (t .tasks)) (urgency t)) (sym (slot-after j)) (tickedSlot-fits t (length (t .tasks)) (urgency t) (nthSlot t j) (f .slots j)))
+    (λ j. subst (SlotFits (length (t .tasks))) (sym (slot-after j)) (tickedSlot-fits t (length (t .tasks)) (nthSlot t j) (f .slots j)))
     (subst₂ Linked (fun-ext (λ i. sym (task-after i))) (fun-ext (λ j. sym (slot-after j)))
     (ended (nthTask t) (nthSlot t) (below t f) (f .linked) (λ i. ticked (nthTask t i)) (λ j. tickedSlot t (nthSlot t j)) (λ i. expires (nthTask t i))
     (λ i e. ticked-woken (nthTask t i) e) (λ i e. ticked-same (nthTask t i) e)

@@ -11,9 +11,9 @@ use borrow.Author.Tests.{leb-true, eq-eqb, ne-eqb, le-leb}
 use Rattle.laws.specs.Choose.{_and_}
 use Rattle.laws.proofs.Choose.{and-both, both-and, or-first, or-second, then-when, false-isnt}
 use Rattle.laws.proofs.All.{all-of}
-use Rattle.rules.specs.Machine.{Slot, Tables, slotOf, waits, isLive, urgency, idOf, names}
+use Rattle.rules.specs.Machine.{Slot, Tables, slotOf, waits, isLive, idOf, names}
 use Rattle.rules.specs.Agreement.{Agrees, isWaiter, isReadyTask, isQueuedOnce, isBinaryRight, occurs, sizesFit}
-use Rattle.rules.proofs.Invariants.Lists.{ascending-at, bit-yes, bit-true, occurs-at}
+use Rattle.rules.proofs.Invariants.Lists.{bit-yes, bit-true, occurs-at}
 use Rattle.rules.proofs.Invariants.Agreeing.{TaskAgrees, LiveAgrees, SlotAgrees, sizes-within, items-agree}
 use Rattle.rules.proofs.Invariants.Facts.{nthTask, nthSlot, waitsOn, Unheld, Held, Names, Facts, waits-within, live-within}
 
@@ -41,7 +41,7 @@ module _ (t : Tables) (f : Facts t) where
       (eq-eqb _ _ (subst (λ (m : ℕ). occurs (suc i) (slotOf t m .queue) ≡ 1) (sym (e .1)) (f .linked .counted i (n .place) (n .live) ∙ bit-yes _ on)))
 
   -- what stands in a queue waits there
-  entry : (j : ℕ) → isLive (nthSlot t j) ≡ true → (q : ℕ) → 1 ≤ occurs q (nthSlot t j .queue) → isWaiter t (idOf (suc j) (nthSlot t j)) q ≡ true
+  pub entry : (j : ℕ) → isLive (nthSlot t j) ≡ true → (q : ℕ) → 1 ≤ occurs q (nthSlot t j .queue) → isWaiter t (idOf (suc j) (nthSlot t j)) q ≡ true
   entry j l zero o = absurd (let z : occurs 0 (nthSlot t j .queue) ≡ 0 = f .slots j .whenLive l .entries in omega arith)
   entry j l (suc i) o =
       let on = bit-true _ (subst (λ (n : ℕ). 1 ≤ n) (f .linked .counted i j l) o) in
@@ -78,7 +78,6 @@ module _ (t : Tables) (f : Facts t) where
         named = both-and (le-leb _ _ (s .generation)) (false-isnt _ (ne-eqb _ _ (λ (z : nthSlot t j .name ≡ 0). omega arith)));
         attributed = s .attributed;
         waiting = all-of _ _ (λ k b. entry j l (getD queue k 0) (occurs-at queue k b));
-        ordered = λ b. all-of _ _ (λ k h. le-leb _ _ (ascending-at (urgency t) 0 queue (s .ordered b) k h));
         atZero = then-when _ _ (λ q. eq-eqb _ _ (s .atZero (leb-true _ _ q)));
         owned = λ b. held (nthSlot t j) (s .owned b);
         unowned = λ b.

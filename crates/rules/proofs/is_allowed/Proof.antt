@@ -21,6 +21,9 @@ returns-5 c = search cases
 returns-6 : tie.Need-returns-6
 returns-6 c = search cases
 
+returns-7 : tie.Need-returns-7
+returns-7 c = search cases
+
 pub is-allowed-spec : {M : Type 1} → statement M
 is-allowed-spec =
-    tie.close (tie.spec returns returns-2 returns-3 returns-4 returns-5 returns-6)
+    tie.close (tie.spec returns returns-2 returns-3 returns-4 returns-5 returns-6 returns-7)

@@ -12,5 +12,8 @@ returns-2 c = search cases
 returns-3 : tie.Need-returns-3
 returns-3 c = search cases
 
+returns-4 : tie.Need-returns-4
+returns-4 c = search cases
+
 pub is-by-priority-spec : {M : Type 1} → statement M
-is-by-priority-spec = tie.close (tie.spec returns returns-2 returns-3)
+is-by-priority-spec = tie.close (tie.spec returns returns-2 returns-3 returns-4)

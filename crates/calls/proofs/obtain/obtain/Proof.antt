@@ -9,7 +9,7 @@ use Rattle.tables.specs.Layout.{laid, modelOf}
 use Rattle.calls.proofs.Agreeing.{sized, tasks-few}
 use Rattle.calls.proofs.Doing.{does, refuses}
 use Rattle.calls.proofs.Entering.{slot-few, room}
-use Rattle.calls.proofs.Obtaining.{taking, took, obtain-refused, ready-task, place-few, taken-slot, obtain-unsatisfied, obtain-took}
+use Rattle.calls.proofs.Obtaining.{taking, took, obtain-refused, ready-task, taken-slot, obtain-unsatisfied, obtain-took}
 use Rattle.calls.proofs.Obtaining.{obtain-queued, queued-laid, sequence-few}
 use Rattle.calls.proofs.obtain.obtain.Statement.{statement}
 use Rattle.calls.proofs.obtain.obtain.Tie as tie
@@ -18,7 +18,7 @@ abbrev start : tie.After-enter → tie.Start
 start c = c .before .before .before .before .before
 
 abbrev entered : tie.After-take → tie.After-enter
-entered c = c .before .before .before .before .before .before
+entered c = c .before .before .before .before
 
 abbrev taking-of : tie.After-put-slot → tie.After-take
 taking-of c = c .before .before .before .before
@@ -27,15 +27,15 @@ taking-of c = c .before .before .before .before
 who : (c : tie.After-take) → Caller (modelOf (start (entered c) .args .m .now)) (start (entered c) .args .caller)
 who c =
     let e = entered c in
-    ready-task (start e .args .caller) (e .before .before .task-only .ensures) (e .enter .ensures) (c .before .before .before .before .if1 .left)
+    ready-task (start e .args .caller) (e .before .before .task-only .ensures) (e .enter .ensures) (c .before .before .if1 .left)
 
 taken : (c : tie.After-take)
     → let e = entered c in
     TakenIs (c .take .result) (taking (modelOf (start e .args .m .now)) (e .enter .result .slot) (start e .args .caller) (start e .args .wait))
 taken c =
     let e = entered c in
-    taken-slot (start e .args .caller) (e .before .before .task-only .ensures) (e .enter .ensures) (c .before .before .before .before .if1 .left) _
-    (c .before .place-of .ensures) (start e .args .wait) (c .take .ensures)
+    taken-slot (start e .args .caller) (e .before .before .task-only .ensures) (e .enter .ensures) (c .before .before .if1 .left)
+    (start e .args .wait) (c .take .ensures)
 
 -- the bytes with the slot as it was taken
 stored : (c : tie.After-put-slot)
@@ -44,7 +44,7 @@ stored : (c : tie.After-put-slot)
 stored c =
     let k = taking-of c in
     let e = entered k in
-    c .put-slot .ensures _ _ (start e .pre .same) (taken k .semaphore) (e .enter .ensures .found (k .before .before .before .before .if1 .left) .high)
+    c .put-slot .ensures _ _ (start e .pre .same) (taken k .semaphore) (e .enter .ensures .found (k .before .before .if1 .left) .high)
 
 task-only-requires : tie.Need-task-only-requires
 task-only-requires c κs = sized (c .before .before .pre)
@@ -61,20 +61,14 @@ returns c =
     refuses (start e .pre) _
     (obtain-refused (start e .args .caller) (e .before .before .task-only .ensures) (e .enter .ensures) (start e .args .wait) (c .if1 .taken)) _ refl refl
 
-place-of-requires : tie.Need-place-of-requires
-place-of-requires c κs =
-    let e = c .before .before .before .before in
-    (sized (start e .pre), e .enter .ensures .found (c .before .before .if1 .left) .stands .padded .few)
-
 take-requires : tie.Need-take-requires
 take-requires c κs =
-    let e = c .before .before .before .before .before in
-    let z = c .before .before .before .if1 .left in
+    let e = c .before .before .before in
+    let z = c .before .if1 .left in
     let f = e .enter .ensures .found z in
     let is = e .before .before .task-only .ensures in (
       f .stands .padded,
       room (start e .pre .agrees) f (ready-task (start e .args .caller) is (e .enter .ensures) z),
-      place-few (start e .args .caller) is (e .enter .ensures) z _ (c .place-of .ensures),
     )
 
 same-length-2 : tie.Need-same-length-2
@@ -85,7 +79,7 @@ returns-2 c =
     let k = c .before in
     let e = entered k in
     refuses (start e .pre) _
-    (obtain-unsatisfied (start e .args .caller) (e .before .before .task-only .ensures) (e .enter .ensures) (k .before .before .before .before .if1 .left)
+    (obtain-unsatisfied (start e .args .caller) (e .before .before .task-only .ensures) (e .enter .ensures) (k .before .before .if1 .left)
     (start e .args .wait) (taken k) (c .if2 .taken))
     _ refl refl
 
@@ -93,7 +87,7 @@ put-slot-requires : tie.Need-put-slot-requires
 put-slot-requires c κs =
     let k = c .before .before .before in
     let e = entered k in
-    let f = e .enter .ensures .found (k .before .before .before .before .if1 .left) in
+    let f = e .enter .ensures .found (k .before .before .if1 .left) in
     (sized (start e .pre) .long, f .low, slot-few (start e .pre .agrees) f)
 
 same-length-3 : tie.Need-same-length-3
@@ -105,7 +99,7 @@ returns-3 c =
     let k = taking-of put in
     let e = entered k in
     does 0 0 _
-    (obtain-took (start e .args .caller) (e .before .before .task-only .ensures) (e .enter .ensures) (k .before .before .before .before .if1 .left)
+    (obtain-took (start e .args .caller) (e .before .before .task-only .ensures) (e .enter .ensures) (k .before .before .if1 .left)
     (start e .args .wait) (taken k)
     (put .before .before .before .if2 .left) (c .if3 .taken))
     _ refl refl (stored put)
@@ -149,7 +143,7 @@ returns-4 c =
     let s = start e in
     let block = c .before .before .before .before in
     does 100 0 _
-    (obtain-queued (s .args .caller) (e .before .before .task-only .ensures) (e .enter .ensures) (k .before .before .before .before .if1 .left)
+    (obtain-queued (s .args .caller) (e .before .before .task-only .ensures) (e .enter .ensures) (k .before .before .if1 .left)
     (s .args .wait) (taken k)
     (put .before .before .before .if2 .left) (c .before .before .before .before .before .before .before .before .if3 .left))
     _ refl refl
@@ -166,7 +160,6 @@ obtain-spec =
     enter-requires
     same-length
     returns
-    place-of-requires
     take-requires
     same-length-2
     returns-2

@@ -1,4 +1,4 @@
--- `calls::release::release` meets its contract: refused, or the slot stored, and the first of its queue woken if there is one.
+-- `calls::release::release` meets its contract: refused, or the slot stored, and the waiter served woken if there is one.
 use borrow.Author.Needs.{needs}
 use mathlib.Core.Path.{refl}
 use native.Mathlib.Omega.{arith}
@@ -12,7 +12,7 @@ use Rattle.tables.specs.Layout.{laid, modelOf}
 use Rattle.calls.proofs.Agreeing.{sized, tasks-few}
 use Rattle.calls.proofs.Doing.{does, refuses}
 use Rattle.calls.proofs.Entering.{slot-few, count-within}
-use Rattle.calls.proofs.Releasing.{returned, release-refused, release-unsatisfied, release-returned, release-handed, given-slot, woken-tasks, woken-room}
+use Rattle.calls.proofs.Releasing.{returned, release-refused, release-unsatisfied, release-returned, release-handed, place-within, given-slot, woken-tasks, woken-room}
 use Rattle.calls.proofs.release.release.Statement.{statement}
 use Rattle.calls.proofs.release.release.Tie as tie
 
@@ -20,7 +20,7 @@ abbrev start : tie.After-enter → tie.Start
 start c = c .before .before .before .before .before
 
 abbrev entered : tie.After-give → tie.After-enter
-entered c = c .before .before .before .before
+entered c = c .before .before .before .before .before .before
 
 abbrev giving : tie.After-put-slot → tie.After-give
 giving c = c .before .before .before .before
@@ -32,9 +32,9 @@ stored : (c : tie.After-put-slot)
 stored c =
     let g = giving c in
     let e = entered g in
-    let z = g .before .before .if1 .left in
+    let z = g .before .before .before .before .if1 .left in
     c .put-slot .ensures _ _ (start e .pre .same)
-    (given-slot (start e .args .caller) (e .before .before .any-caller .ensures) (e .enter .ensures) z (g .give .ensures) .semaphore)
+    (given-slot (start e .args .caller) (e .before .before .any-caller .ensures) (e .enter .ensures) z _ (g .before .served-place .ensures) (g .give .ensures) .semaphore)
     (e .enter .ensures .found z .high)
 
 any-caller-requires : tie.Need-any-caller-requires
@@ -51,11 +51,20 @@ returns c =
     let e = c .before .before in
     refuses (start e .pre) _ (release-refused (start e .args .caller) (e .before .before .any-caller .ensures) (e .enter .ensures) (c .if1 .taken)) _ refl refl
 
+served-place-requires : tie.Need-served-place-requires
+served-place-requires c κs =
+    let e = c .before .before .before .before in
+    (sized (start e .pre), e .enter .ensures .found (c .before .before .if1 .left) .stands .padded .few)
+
 give-requires : tie.Need-give-requires
 give-requires c κs =
-    let e = c .before .before .before in
-    let f = e .enter .ensures .found (c .before .if1 .left) in
-    (f .stands .padded, count-within (start e .pre .agrees) f)
+    let e = c .before .before .before .before .before in
+    let z = c .before .before .before .if1 .left in
+    let f = e .enter .ensures .found z in (
+      f .stands .padded,
+      count-within (start e .pre .agrees) f,
+      place-within (start e .args .caller) (e .before .before .any-caller .ensures) (e .enter .ensures) z _ (c .served-place .ensures),
+    )
 
 same-length-2 : tie.Need-same-length-2
 same-length-2 c = search needs
@@ -65,15 +74,15 @@ returns-2 c =
     let g = c .before in
     let e = entered g in
     refuses (start e .pre) _
-    (release-unsatisfied (start e .args .caller) (e .before .before .any-caller .ensures) (e .enter .ensures) (g .before .before .if1 .left)
-    (g .give .ensures) (c .if2 .taken))
+    (release-unsatisfied (start e .args .caller) (e .before .before .any-caller .ensures) (e .enter .ensures) (g .before .before .before .before .if1 .left)
+    _ (g .before .served-place .ensures) (g .give .ensures) (c .if2 .taken))
     _ refl refl
 
 put-slot-requires : tie.Need-put-slot-requires
 put-slot-requires c κs =
     let g = c .before .before .before in
     let e = entered g in
-    let f = e .enter .ensures .found (g .before .before .if1 .left) in
+    let f = e .enter .ensures .found (g .before .before .before .before .if1 .left) in
     (sized (start e .pre) .long, f .low, slot-few (start e .pre .agrees) f)
 
 same-length-3 : tie.Need-same-length-3
@@ -85,7 +94,7 @@ returns-3 c =
     let g = giving put in
     let e = entered g in
     does 0 0 _
-    (release-returned (start e .args .caller) (e .before .before .any-caller .ensures) (e .enter .ensures) (g .before .before .if1 .left) (g .give .ensures)
+    (release-returned (start e .args .caller) (e .before .before .any-caller .ensures) (e .enter .ensures) (g .before .before .before .before .if1 .left) _ (g .before .served-place .ensures) (g .give .ensures)
     (put .before .before .before .if2 .left) (c .if3 .taken))
     _ refl refl (stored put)
 
@@ -95,7 +104,7 @@ wake-requires c κs =
     let g = giving put in
     let e = entered g in
     let few =
-    woken-tasks (start e .args .caller) (e .before .before .any-caller .ensures) (e .enter .ensures) (g .before .before .if1 .left) (g .give .ensures)
+    woken-tasks (start e .args .caller) (e .before .before .any-caller .ensures) (e .enter .ensures) (g .before .before .before .before .if1 .left) _ (g .before .served-place .ensures) (g .give .ensures)
     (start e .pre .agrees)
     in (
       omega (arith, sized (start e .pre) .long, put .put-slot .kept),
@@ -113,15 +122,15 @@ returns-4 c =
     let e = entered g in
     let caller = start e .args .caller in
     let is = e .before .before .any-caller .ensures in
-    let z = g .before .before .if1 .left in
+    let z = g .before .before .before .before .if1 .left in
     let t = modelOf (start e .args .m .now) in
     let after = returned t (e .enter .result .slot) caller in
     does 0 0 _
-    (release-handed caller is (e .enter .ensures) z (g .give .ensures) (put .before .before .before .if2 .left) (c .before .before .before .before .if3 .left))
+    (release-handed caller is (e .enter .ensures) z _ (g .before .served-place .ensures) (g .give .ensures) (put .before .before .before .if2 .left) (c .before .before .before .before .if3 .left))
     _ refl refl
-    (c .before .before .wake .ensures after (stored put) (woken-tasks caller is (e .enter .ensures) z (g .give .ensures) (start e .pre .agrees))
-    (woken-room caller is (e .enter .ensures) z (g .give .ensures) (start e .pre .agrees) (c .before .before .before .before .if3 .left))
-    ∙ ap (λ (q : ℕ). laid (wake after q 0)) (given-slot caller is (e .enter .ensures) z (g .give .ensures) .woken))
+    (c .before .before .wake .ensures after (stored put) (woken-tasks caller is (e .enter .ensures) z _ (g .before .served-place .ensures) (g .give .ensures) (start e .pre .agrees))
+    (woken-room caller is (e .enter .ensures) z _ (g .before .served-place .ensures) (g .give .ensures) (start e .pre .agrees) (c .before .before .before .before .if3 .left))
+    ∙ ap (λ (q : ℕ). laid (wake after q 0)) (given-slot caller is (e .enter .ensures) z _ (g .before .served-place .ensures) (g .give .ensures) .woken))
 
 pub release-spec : {M : Type 1} → statement M
 release-spec =
@@ -131,6 +140,7 @@ release-spec =
     enter-requires
     same-length
     returns
+    served-place-requires
     give-requires
     same-length-2
     returns-2

@@ -17,7 +17,7 @@ returns : tie.Need-returns
 returns c =
     let start = c .before .before .before in
     let other = sym (c .before .before .is-binary .ensures) ∙ not-true _ (c .before .if1 .taken) in
-    given-as (give-unowned (slotFrom (start .args .self)) (start .args .caller) other)
+    given-as (give-unowned (slotFrom (start .args .self)) (start .args .place) (start .args .caller) other)
     (c .passed-on .ensures)
 
 is-held-by-requires : tie.Need-is-held-by-requires
@@ -28,7 +28,7 @@ returns-2 c =
     let start = c .before .before .before .before in
     let binary = sym (c .before .before .before .is-binary .ensures) ∙ not-false _ (c .before .before .if1 .left) in
     let unheld = sym (c .before .is-held-by .ensures) ∙ not-true _ (c .if2 .taken) in
-    gave (give-refused (slotFrom (start .args .self)) (start .args .caller) binary unheld)
+    gave (give-refused (slotFrom (start .args .self)) (start .args .place) (start .args .caller) binary unheld)
     (stands-itself (start .pre .0))
 
 sub-with-count : tie.Need-sub-with-count
@@ -42,7 +42,7 @@ returns-3 c =
     let start = c .before .before .before .before .before .before .before .before in
     let holds = sym (c .before .before .before .before .before .is-held-by .ensures) ∙ not-false _ (c .before .before .before .before .if2 .left) in
     let nested = c .before .before .if3 .taken in
-    gave (give-inner (slotFrom (start .args .self)) (start .args .caller) holds nested)
+    gave (give-inner (slotFrom (start .args .self)) (start .args .place) (start .args .caller) holds nested)
     (stands-as (c .with-count .ensures) (stands-count (stands-itself (start .pre .0)) _ _ _))
 
 passed-on-requires-2 : tie.Need-passed-on-requires-2
@@ -53,7 +53,7 @@ returns-4 c =
     let start = c .before .before .before .before .before .before .before in
     let holds = sym (c .before .before .before .before .is-held-by .ensures) ∙ not-false _ (c .before .before .before .if2 .left) in
     let once = c .before .if3 .left in
-    given-as (give-outer (slotFrom (start .args .self)) (start .args .caller) holds once)
+    given-as (give-outer (slotFrom (start .args .self)) (start .args .place) (start .args .caller) holds once)
     (c .passed-on2 .ensures)
 
 pub give-spec : {M : Type 1} → statement M

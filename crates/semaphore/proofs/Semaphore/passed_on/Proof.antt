@@ -11,11 +11,18 @@ use lib.ListN.{length}
 use Rattle.semaphore.proofs.Semaphore.passed_on.Statement.{statement}
 use Rattle.semaphore.proofs.Semaphore.passed_on.Tie as tie
 
-array-read-first : tie.Need-array-read-first
-array-read-first c = search needs
+-- the place is one of the queue
+within : (c : tie.After-queue) → c .before .before .before .args .place < 32
+within c = let start = c .before .before .before in omega (arith, start .pre .2 (c .before .if1 .taken), start .pre .0 .few)
 
-advanced-requires : tie.Need-advanced-requires
-advanced-requires c κs = search needs
+mul-served : tie.Need-mul-served
+mul-served c = omega (arith, within c)
+
+array-read-served : tie.Need-array-read-served
+array-read-served c = omega (arith, within c)
+
+removed-requires : tie.Need-removed-requires
+removed-requires c κs = within c
 
 with-queue-requires : tie.Need-with-queue-requires
 with-queue-requires c κs = search needs
@@ -32,12 +39,13 @@ returns c =
     let s = start .args .self in
     let p = start .pre .0 in
     let some : 1 ≤ length (slotFrom s .queue) = omega (arith, length-queue s p) in
-    let first = getD-take (s .waiters) (s .queue) 0 0 (omega arith) in
+    let there = start .pre .2 (omega arith) in
+    let served = getD-take (s .waiters) (s .queue) (start .args .place) 0 there in
     let binary = sym (c .before .before .is-binary .ensures) ∙ c .before .if2 .taken in
-    gave (pass-owned (slotFrom s) some _ first binary)
+    gave (pass-owned (slotFrom s) (start .args .place) some _ served binary)
     (stands-as (c .with-count .ensures)
     (stands-count
-    (stands-as (c .before .before .before .with-queue .ensures) (stands-left s p _ (c .before .before .before .before .before .advanced .ensures)))
+    (stands-as (c .before .before .before .with-queue .ensures) (stands-left s p (start .args .place) _ there (c .before .before .before .before .before .removed .ensures)))
     _ _ _))
 
 returns-2 : tie.Need-returns-2
@@ -46,10 +54,11 @@ returns-2 c =
     let s = start .args .self in
     let p = start .pre .0 in
     let some : 1 ≤ length (slotFrom s .queue) = omega (arith, length-queue s p) in
-    let first = getD-take (s .waiters) (s .queue) 0 0 (omega arith) in
+    let there = start .pre .2 (omega arith) in
+    let served = getD-take (s .waiters) (s .queue) (start .args .place) 0 there in
     let other = sym (c .before .is-binary .ensures) ∙ c .if2 .left in
-    gave (pass-handed (slotFrom s) some _ first other)
-    (stands-as (c .before .before .with-queue .ensures) (stands-left s p _ (c .before .before .before .before .advanced .ensures)))
+    gave (pass-handed (slotFrom s) (start .args .place) some _ served other)
+    (stands-as (c .before .before .with-queue .ensures) (stands-left s p (start .args .place) _ there (c .before .before .before .before .removed .ensures)))
 
 returns-3 : tie.Need-returns-3
 returns-3 c =
@@ -57,7 +66,7 @@ returns-3 c =
     let s = start .args .self in
     let p = start .pre .0 in
     let none : length (slotFrom s .queue) < 1 = omega (arith, length-queue s p) in
-    gave (pass-full (slotFrom s) none (c .if3 .taken)) (stands-itself p)
+    gave (pass-full (slotFrom s) (start .args .place) none (c .if3 .taken)) (stands-itself p)
 
 add-with-count : tie.Need-add-with-count
 add-with-count c = search needs
@@ -71,15 +80,16 @@ returns-4 c =
     let s = start .args .self in
     let p = start .pre .0 in
     let none : length (slotFrom s .queue) < 1 = omega (arith, length-queue s p) in
-    gave (pass-raised (slotFrom s) none (c .before .before .if3 .left))
+    gave (pass-raised (slotFrom s) (start .args .place) none (c .before .before .if3 .left))
     (stands-as (c .with-count2 .ensures) (stands-count (stands-itself p) _ _ _))
 
 pub passed-on-spec : {M : Type 1} → statement M
 passed-on-spec =
     tie.close
     (tie.spec
-    array-read-first
-    advanced-requires
+    mul-served
+    array-read-served
+    removed-requires
     with-queue-requires
     is-binary-requires
     with-count-requires

@@ -1,6 +1,6 @@
 -- `semaphore::Semaphore::take` meets its contract: each return is a case of the rule.
 use borrow.Author.Needs.{needs}
-use mathlib.Core.Path.{sym, _∙_}
+use mathlib.Core.Path.{refl, sym, _∙_}
 use Rattle.semaphore.specs.Record.{slotFrom}
 use Rattle.semaphore.proofs.TakeGive.{stands-itself, stands-count, stands-as, stands-joined, took}
 use Rattle.semaphore.proofs.TakeGive.{take-owned, take-passed, take-full, take-nested, take-refused, take-waits}
@@ -19,7 +19,7 @@ returns c =
     let call = start .args in
     let some = c .before .before .before .before .if1 .taken in
     let binary = sym (c .before .before .before .is-binary .ensures) ∙ c .before .before .if2 .taken in
-    took (take-owned (slotFrom (call .self)) (call .caller) (call .place) (call .wait) some binary)
+    took (take-owned (slotFrom (call .self)) (call .caller) (call .wait) some binary)
     (stands-as (c .with-count .ensures) (stands-count (stands-itself (start .pre .0)) _ _ _))
 
 with-count-requires-2 : tie.Need-with-count-requires-2
@@ -31,7 +31,7 @@ returns-2 c =
     let call = start .args in
     let some = c .before .before .before .before .if1 .taken in
     let binary = sym (c .before .before .before .is-binary .ensures) ∙ c .before .before .if2 .left in
-    took (take-passed (slotFrom (call .self)) (call .caller) (call .place) (call .wait) some binary)
+    took (take-passed (slotFrom (call .self)) (call .caller) (call .wait) some binary)
     (stands-as (c .with-count2 .ensures) (stands-count (stands-itself (start .pre .0)) _ _ _))
 
 is-held-by-requires : tie.Need-is-held-by-requires
@@ -44,7 +44,7 @@ returns-3 c =
     let none = c .before .before .before .before .if1 .left in
     let holds = sym (c .before .before .before .is-held-by .ensures) ∙ c .before .before .if3 .taken in
     let most = c .if4 .taken in
-    took (take-full (slotFrom (call .self)) (call .caller) (call .place) (call .wait) none holds most)
+    took (take-full (slotFrom (call .self)) (call .caller) (call .wait) none holds most)
     (stands-itself (start .pre .0))
 
 add-with-count : tie.Need-add-with-count
@@ -60,7 +60,7 @@ returns-4 c =
     let none = c .before .before .before .before .before .before .if1 .left in
     let holds = sym (c .before .before .before .before .before .is-held-by .ensures) ∙ c .before .before .before .before .if3 .taken in
     let below = c .before .before .if4 .left in
-    took (take-nested (slotFrom (call .self)) (call .caller) (call .place) (call .wait) none holds below)
+    took (take-nested (slotFrom (call .self)) (call .caller) (call .wait) none holds below)
     (stands-as (c .with-count3 .ensures) (stands-count (stands-itself (start .pre .0)) _ _ _))
 
 polls-requires : tie.Need-polls-requires
@@ -73,11 +73,17 @@ returns-5 c =
     let none = c .before .before .before .before .if1 .left in
     let holds = sym (c .before .before .before .is-held-by .ensures) ∙ c .before .before .if3 .left in
     let polling = sym (c .before .polls .ensures) ∙ c .if5 .taken in
-    took (take-refused (slotFrom (call .self)) (call .caller) (call .place) (call .wait) none holds polling)
+    took (take-refused (slotFrom (call .self)) (call .caller) (call .wait) none holds polling)
     (stands-itself (start .pre .0))
 
-inserted-requires : tie.Need-inserted-requires
-inserted-requires c κs = search needs
+cast-rear : tie.Need-cast-rear
+cast-rear c = search needs
+
+mul-longer : tie.Need-mul-longer
+mul-longer c = search needs
+
+array-write-longer : tie.Need-array-write-longer
+array-write-longer c = search needs
 
 add-with-queue : tie.Need-add-with-queue
 add-with-queue c = search needs
@@ -94,9 +100,9 @@ returns-6 c =
     sym (c .before .before .before .before .before .before .before .is-held-by .ensures) ∙ c .before .before .before .before .before .before .if3 .left
     in
     let polling = sym (c .before .before .before .before .before .polls .ensures) ∙ c .before .before .before .before .if5 .left in
-    took (take-waits (slotFrom (call .self)) (call .caller) (call .place) (call .wait) none holds polling)
+    took (take-waits (slotFrom (call .self)) (call .caller) (call .wait) none holds polling)
     (stands-as (c .with-queue .ensures)
-    (stands-joined (call .self) (start .pre .0) (call .place) (call .caller) _ (start .pre .1) (start .pre .2) (c .before .before .inserted .ensures)))
+    (stands-joined (call .self) (start .pre .0) (call .caller) _ (start .pre .1) refl))
 
 pub take-spec : {M : Type 1} → statement M
 take-spec =
@@ -114,7 +120,9 @@ take-spec =
     returns-4
     polls-requires
     returns-5
-    inserted-requires
+    cast-rear
+    mul-longer
+    array-write-longer
     add-with-queue
     with-queue-requires
     returns-6)
