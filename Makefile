@@ -67,7 +67,7 @@ OBJECTS := capi capi_run capi_state capi_itron
 build/libmastclover.a: FORCE
 	@mkdir -p build/members
 	@bash tools/archive $(OBJECTS)
-	@cd build/members && rm -f * && for each in $(OBJECTS); do ar x ../../target/staticlib/lib$$each.a; done && ar rcsD all.a *.o
+	@cd build/members && rm -f * && for each in $(OBJECTS); do ar x ../../target/staticlib/lib$$each.a; done && bash ../../tools/align *.o && ar rcsD all.a *.o
 	@cmp -s build/members/all.a $@ || cp build/members/all.a $@
 
 FORCE:

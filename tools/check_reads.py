@@ -1,7 +1,7 @@
 """Follows the lent bytes from ident's functions down, and fails unless they lead to the words of slots by one way, with each step at one place and
 the two functions at its end as they were read: so that what the last one counts is every look at a slot, none of them twice. The test for 25 is
 not followed. The next task, which an answer names behind the search, is followed by itself: it has no part in the search, and reads of slots
-those alone that tasks wait on, for their owners. What this can't see, a reader sees in the functions that it names.
+one for each task, that which it waits on or, where it waits on none, the last. What this can't see, a reader sees in the functions that it names.
 
 check_reads.py           says the way
 check_reads.py --wrong   tries programs that look again, each of which must be refused"""
@@ -16,7 +16,7 @@ TEST, TESTED = "agreement::is_agreeing", "manager::ident_looked"
 NEXT, ANSWERED = "lookup::next_task", "calls::answer"
 SEARCH, LOOK, SLOT, WORD = "lookup::looks::search", "lookup::looks::next_look", "tables::slot_word", "words::word"
 FIELDS = ["tables::slot_generation", "tables::slot_live", "tables::slot_name"]
-# Who reads slots for the next task, and by whom: the one that a task waits on is found and its head read, at one place.
+# Who reads slots for the next task, and by whom: the head of the one that a task waits on, at one place, and whether its identifier names it.
 LENT = {
     "lookup::working::lends_to": ["lookup::working::load_lenders"], "lookup::slot_named": ["lookup::working::lends_to"],
     "tables::load_head": ["lookup::working::lends_to"], "tables::slot_live": ["lookup::slot_named"], "tables::slot_generation": ["lookup::slot_named"],
@@ -195,7 +195,7 @@ NAMED = "tables::slot_name(m, i)"
 CALLED = "    calls::ident::ident(m, name)\n"
 FOUND = "    let sought = search(m, name);\n    sought.done"
 LENDERS = "    let lenders = working::load_lenders(m);\n"
-HEAD_READ = "    let s = tables::load_head(m, n as usize - 1);\n"
+HEAD_READ = "    let s = tables::load_head(m, place as usize);\n"
 WRONG = {
     "the search begins again for the identifier": ("calls::ident", COUNTED, COUNTED + SEARCHED),
     "the match is looked at again": ("calls::ident", "Done(0, last.generation *", "Done(0, tables::slot_generation(m, looked as usize - 1) *"),
@@ -210,8 +210,8 @@ WRONG = {
     "the test is made again": ("manager", CALLED, "    agreement::is_agreeing(m);\n" + CALLED),
     "the step searches twice": ("calls::ident", FOUND, "    search(m, name);\n" + FOUND),
     "the next task searches": ("lookup", LENDERS, "    looks::search(m, tables::slot_count(m), 7);\n" + LENDERS),
-    "the next task reads a slot that nobody waits on": ("lookup", LENDERS, "    tables::load_head(m, 0);\n" + LENDERS),
-    "the slot of a wait is read twice": ("lookup::working", HEAD_READ, HEAD_READ + "    tables::load_head(m, n as usize - 1);\n"),
+    "the next task reads a slot for no task": ("lookup", LENDERS, "    tables::load_head(m, 0);\n" + LENDERS),
+    "the slot of a wait is read twice": ("lookup::working", HEAD_READ, HEAD_READ + "    tables::load_head(m, place as usize);\n"),
     "the step asks for the next task": ("calls::ident", FOUND, "    lookup::next_task(m);\n" + FOUND),
     "others can look too": ("lookup::looks", "\nfn next_look(", "\npub fn next_look("),
 }

@@ -36,6 +36,7 @@ static void run_sections(void)
     static const uint32_t events[] = {
         MAST_EVENT_TURN, 2, MAST_EVENT_TURN, 3, MAST_EVENT_START, 1, 2, 3, 4, MAST_EVENT_TURN, 2, MAST_EVENT_TICK,
         MAST_EVENT_CREATE, 1, 9, 0, MAST_PRIORITY, 3, MAST_EVENT_OBTAIN, 4, 65538, MAST_WAIT, 2, MAST_EVENT_OBTAIN, 5, 65538, MAST_WAIT, 1,
+        MAST_EVENT_OBTAIN, 6, 65538, MAST_WAIT, 2,
         MAST_EVENT_IDENT, 9, MAST_EVENT_TICK, MAST_EVENT_FLUSH, 0, 65538, MAST_EVENT_RELEASE, 1, 65538, MAST_EVENT_DELETE, 1, 65538,
         MAST_EVENT_TURN, 2, MAST_EVENT_TURN, 2, MAST_EVENT_TURN, 3, MAST_EVENT_TURN, 3, MAST_EVENT_TURN, 3,
     };
@@ -155,8 +156,9 @@ static int run_itron(void)
 }
 
 /*
- * 32 tasks with an inheritance semaphore each, 65536 and the task's number, in chains as long as there can be: task k waits on that of
- * task k + 1, and the last on a queue or on that of the first, which is a cycle. Whether all went as it should.
+ * 32 tasks with an inheritance semaphore each, 65536 and the task's number, in chains as long as there can be: from 2 on task k waits on
+ * that of task k + 1, and the last on a queue or on that of task 2, which is a cycle. Task 1 waits behind all of them, or beside one, since
+ * a queue of one is served without a look at priorities. Whether all went as it should.
  */
 static int run_chain(void)
 {
@@ -168,31 +170,39 @@ static int run_chain(void)
     for (task = 1; task <= LAST; task++)
         run(CREATE, task, 7, 0, MAST_BINARY_SEMAPHORE | MAST_PRIORITY | MAST_INHERIT_PRIORITY);
     run(CREATE, 1, 8, 0, MAST_PRIORITY);
-    for (task = 1; task < LAST - 1; task++)
+    for (task = 2; task < LAST - 1; task++)
         run(OBTAIN, task, 65536 + task + 1, MAST_WAIT, MAST_NO_TIMEOUT);
     for (task = 0; task < 3; task++) {
         run(OBTAIN, LAST - 1, QUEUE, MAST_WAIT, 1);
+        run(OBTAIN, 1, QUEUE, MAST_WAIT, 1);
         run(task == 0 ? RELEASE : task == 1 ? TICK : DELETE, task == 2 ? LAST : 0, QUEUE, 0, 0);
         run(TASK, LAST - 1, 0, 0, 0);
+        run(TICK, 0, 0, 0, 0);
     }
     run(OBTAIN, LAST - 1, 65536 + LAST, MAST_WAIT, MAST_NO_TIMEOUT);
+    run(OBTAIN, 1, 65538, MAST_WAIT, 1);
     run(IDENT, 7, 0, 0, 0);
     run(IDENT_LOOKED, 7, 0, 0, 0);
-    run(CRE_SEM, LAST, 1, 0, 3);
-    run(PREQ_SEM, LAST, 1, 0, 0);
-    run(TWAI_SEM, LAST, 1, 1, 0);
-    run(SIG_SEM, 0, 1, 0, 0);
-    run(WAI_SEM, LAST, 1, 0, 0);
-    run(SIG_SEM, 0, 1, 0, 0);
-    run(REF_SEM, 0, 1, 0, 0);
-    run(DEL_SEM, LAST, 1, 0, 0);
-    if (code != MAST_E_OK)
-        return 0;
+    run(TASK, LAST, 0, 0, 0);
     run(SAVE, 0, 0, 0, 0);
     memset(other, 0, sizeof other);
     run(LOAD, answered.value, 0, 0, 0);
-    run(OBTAIN, LAST, 65537, MAST_WAIT, MAST_NO_TIMEOUT);
-    run(FLUSH, 0, 65538, 0, 0);
+    run(CRE_SEM, LAST, 1, 0, 3);
+    run(PREQ_SEM, LAST, 1, 0, 0);
+    run(REF_SEM, 0, 1, 0, 0);
+    run(TICK, 0, 0, 0, 0);
+    run(TWAI_SEM, LAST, 1, 1, 0);
+    run(TWAI_SEM, 1, 1, 1, 0);
+    run(SIG_SEM, 0, 1, 0, 0);
+    run(SIG_SEM, 0, 1, 0, 0);
+    run(WAI_SEM, LAST, 1, 0, 0);
+    run(SIG_SEM, 0, 1, 0, 0);
+    run(DEL_SEM, LAST, 1, 0, 0);
+    if (code != MAST_E_OK)
+        return 0;
+    run(OBTAIN, LAST, 65538, MAST_WAIT, MAST_NO_TIMEOUT);
+    run(OBTAIN, 1, 65539, MAST_WAIT, MAST_NO_TIMEOUT);
+    run(FLUSH, 0, 65539, 0, 0);
     return answered.status == MAST_SUCCESSFUL && mast_task(tables, sizeof tables, 1).value == MAST_UNSATISFIED;
 }
 

@@ -33,7 +33,7 @@ pub fn delete(m: &mut [u8], caller: u32, id: u32) -> Done
     if is_owned(s) {
         return Done(rules::RESOURCE_IN_USE, 0);
     }
-    let order = lookup::serving::serving_order(m, s);
+    let order = serving::serving_order(m, s);
     let freed = semaphore::free(s.generation);
     changes::put_slot(m, e.slot, freed);
     changes::wake_all(m, order, s.waiters as usize, rules::OBJECT_WAS_DELETED);

@@ -15,7 +15,7 @@ pub fn flush(m: &mut [u8], caller: u32, id: u32) -> Done
         return Done(e.refusal, 0);
     }
     let s = e.semaphore;
-    let order = lookup::serving::serving_order(m, s);
+    let order = serving::serving_order(m, s);
     let flushed = s.flush();
     let emptied = flushed.semaphore;
     changes::put_slot(m, e.slot, emptied);

@@ -15,7 +15,7 @@ pub fn release(m: &mut [u8], caller: u32, id: u32) -> Done
         return Done(e.refusal, 0);
     }
     let s = e.semaphore;
-    let place = lookup::serving::served_place(m, s);
+    let place = serving::served_place(m, s);
     let given = s.give(caller, place);
     let status = given.status;
     if status != 0 {

@@ -19,10 +19,10 @@ use Rattle.lookup.specs.Search.{isMatch}
 use Rattle.rules.proofs.Searching.{isOpen, isNamed}
 use Rattle.lookup.proofs.Model.{length-tasks, length-slots, task-read, task-none, slot-read}
 
-and-first : {a : Bool} (b : Bool) → a ≡ false → (a and b) ≡ false
+pub and-first : {a : Bool} (b : Bool) → a ≡ false → (a and b) ≡ false
 and-first b e = if-no b false e
 
-and-second : (a : Bool) {b : Bool} → b ≡ false → (a and b) ≡ false
+pub and-second : (a : Bool) {b : Bool} → b ≡ false → (a and b) ≡ false
 and-second a {b} e = ap (λ (b : Bool). a and b) e ∙ choose-same a false
 
 -- ---- a task by its number

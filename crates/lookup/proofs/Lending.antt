@@ -7,25 +7,25 @@ use Prim.Native.Nat.{ℕ, zero, suc, pred, _+_, _-_, _%_, _≤_, _<_}
 use native.Mathlib.Numerals.{add-one}
 use native.Mathlib.Omega.{arith}
 use native.Mathlib.Decide.{ℕ-discrete}
-use lib.Dec.{leb, ltb, eqb}
+use lib.Dec.{ltb, eqb}
 use lib.ListN.{length, getD, set}
-use borrow.Author.Tests.{eqb-true, eq-eqb, ne-eqb, le-leb, lt-leb, leb-true}
+use borrow.Author.Tests.{eqb-true, eq-eqb, ne-eqb, le-leb, lt-leb}
 use Rattle.laws.specs.Choose.{choose, _and_}
 use Rattle.laws.specs.Rows.{fit, tabulate}
 use Rattle.laws.proofs.Fit.{length-tabulate, getD-tabulate, tabulate-last, getD-fit, set-fit-end}
-use Rattle.laws.proofs.Choose.{tested, never, if-yes, if-no, if-eq, if-ne, and-both, both-and, choose-cases, choose-same}
+use Rattle.laws.proofs.Choose.{tested, if-yes, if-no, both-and}
 use Rattle.words.specs.Words.{wordAt}
 use Rattle.rules.specs.declared.Task.{Task}
 use Rattle.rules.specs.Numbers.{inherits}
 use Rattle.rules.specs.Machine.{Slot, Tables, freeSlot, taskOf, slotOf, isTask, waits, names, slotNamed, lendsTo, lends, leastOf, workingWith, urgency}
 use Rattle.tables.specs.Layout.{modelOf, taskAt, recordAt, headOf}
 use Rattle.tables.specs.declared.Head.{Head}
+use Rattle.semaphore.specs.Record.{slotFrom}
 use Rattle.lookup.proofs.Model.{length-tasks, length-slots, slot-read}
-use Rattle.lookup.specs.declared.working.Lenders.{Lenders}
 use Rattle.lookup.specs.Lending.{lendings, LendersOf}
 use Rattle.rules.proofs.Working.{working-alone, least-alone}
-use Rattle.lookup.proofs.Answers.{task-of}
-use Rattle.lookup.proofs.CallerAndSlot.{Named, named}
+use Rattle.lookup.proofs.Answers.{and-first, and-second, task-of}
+use Rattle.lookup.proofs.CallerAndSlot.{Named, named, not-named}
 
 -- ---- one task
 
@@ -46,68 +46,63 @@ module _ (bs : List ℕ) (q : ℕ) where
 
   outside : isTask t q ≡ false → 0 ≡ lendsTo t q
   unfolding lendsTo
-  outside e = sym (if-no _ _ (if-no _ _ e))
+  outside e = sym (if-no _ _ (and-first _ e))
 
   pub lends-low : q < 1 → 0 ≡ lendsTo t q
-  lends-low h = outside (if-no _ _ (lt-leb 1 q h))
+  lends-low h = outside (and-first _ (lt-leb 1 q h))
 
   pub lends-above : wordAt bs 0 < q → 0 ≡ lendsTo t q
-  lends-above h = outside (ap (λ (b : Bool). leb 1 q and b) (lt-leb q (length (t .tasks)) (rw length-tasks h)) ∙ choose-same (leb 1 q) false)
+  lends-above h = outside (and-second _ (lt-leb q (length (t .tasks)) (rw length-tasks h)))
 
   module _ (v : Task) (low : 1 ≤ q) (high : q ≤ wordAt bs 0) (loaded : v ≡ taskAt bs (q - 1)) where
     by : lendsTo t q ≡ lendsBy t q v
     by = lends-as t q v (task-of bs q (q - 1) v (omega arith) (omega arith) loaded)
 
-    task : isTask t q ≡ true
-    task = both-and (le-leb 1 q low) (le-leb q (length (t .tasks)) (rw length-tasks high))
+    -- one of the four tests fails
+    nothing : (isTask t q and waits v and names t (v .awaited) and inherits (slotOf t (slotNamed t (v .awaited)) .attributes)) ≡ false → 0 ≡ lendsTo t q
+    unfolding lendsBy
+    nothing e = sym (by ∙ if-no _ _ e)
 
     pub lends-ready : (v .answer ≡ 100 → ⊥) → 0 ≡ lendsTo t q
-    unfolding lendsBy
-    lends-ready h = sym (by ∙ if-no _ _ (if-yes _ _ task ∙ if-no _ _ (ne-eqb (v .answer) 100 h)))
+    lends-ready h = nothing (and-second _ (and-first _ (ne-eqb (v .answer) 100 h)))
 
-    module _ (waiting : v .answer ≡ 100) (n : ℕ) (found : n ≡ slotNamed t (v .awaited)) where
-      waits-now : waits v ≡ true
-      waits-now = eq-eqb (v .answer) 100 waiting
+    pub lends-unnamed : slotNamed t (v .awaited) ≡ 0 → 0 ≡ lendsTo t q
+    lends-unnamed z = nothing (and-second _ (and-second _ (and-first _ (not-named t (v .awaited) z))))
 
-      pub lends-unnamed : n ≡ 0 → 0 ≡ lendsTo t q
-      unfolding lendsBy
-      lends-unnamed z = sym (by ∙ if-no _ _ (if-yes _ _ task ∙ if-yes _ _ waits-now ∙ if-no _ _ nameless))
-        where
-          nameless : names t (v .awaited) ≡ false
-          nameless =
-              ⊎-elim (λ (y : names t (v .awaited) ≡ true).
-              let is : 0 ≡ v .awaited % 65536 = sym z ∙ found ∙ if-yes (v .awaited % 65536) 0 y in
-              let first : 1 ≤ v .awaited % 65536 = leb-true _ _ (and-both _ _ y .0) in
-              absurd (omega arith))
-              (λ (x : names t (v .awaited) ≡ false). x) (tested (names t (v .awaited)))
+    -- the head at the place where the slot stands that the identifier names, if it names one
+    module _ (few : wordAt bs 1 ≤ 64) (s : Head) (read : s ≡ headOf (recordAt bs ((v .awaited % 65536 + 64 - 1) % 64))) where
+      abbrev place : ℕ
+      place = (v .awaited % 65536 + 64 - 1) % 64
 
-      module _ (some : n ≡ 0 → ⊥) where
-        names-it : Named t (v .awaited) n
-        names-it = named t (v .awaited) n (sym found) some
+      slot-at : (n : ℕ) → Named t (v .awaited) n → slotOf t n ≡ slotFrom (recordAt bs place)
+      slot-at n named =
+          let within : n ≤ wordAt bs 1 = rw (← length-slots bs) (named .high) in
+          let there : pred n ≡ place = omega (arith, few, within, named .slot, named .low) in
+          ap (λ (k : ℕ). getD (t .slots) k (freeSlot 0)) there ∙ slot-read bs place (omega (arith, within, there, named .low))
 
-        pub slot-within : n ≤ wordAt bs 1
-        slot-within = rw (← length-slots bs) (names-it .high)
+      module _ (some : slotNamed t (v .awaited) ≡ 0 → ⊥) where
+        names-it : Named t (v .awaited) (slotNamed t (v .awaited))
+        names-it = named t (v .awaited) (slotNamed t (v .awaited)) refl some
 
-        module _ (s : Head) (read : s ≡ headOf (recordAt bs (n - 1))) where
-          slot-is : slotOf t (slotNamed t (v .awaited)) ≡ getD (t .slots) (n - 1) (freeSlot 0)
-          slot-is = ap (λ (k : ℕ). slotOf t k) (sym found) ∙ ap (λ (k : ℕ). getD (t .slots) k (freeSlot 0)) (omega arith)
+        attributes-are : slotOf t (slotNamed t (v .awaited)) .attributes ≡ s .attributes
+        attributes-are = ap (λ (x : Slot). x .attributes) (slot-at _ names-it) ∙ sym (ap (λ (h : Head). h .attributes) read)
 
-          attributes-are : slotOf t (slotNamed t (v .awaited)) .attributes ≡ s .attributes
-          attributes-are =
-              ap (λ (x : Slot). x .attributes) (slot-is ∙ slot-read bs (n - 1) (omega (arith, slot-within))) ∙ sym (ap (λ (h : Head). h .attributes) read)
+        owner-is : slotOf t (slotNamed t (v .awaited)) .owner ≡ s .owner
+        owner-is = ap (λ (x : Slot). x .owner) (slot-at _ names-it) ∙ sym (ap (λ (h : Head). h .owner) read)
 
-          owner-is : slotOf t (slotNamed t (v .awaited)) .owner ≡ s .owner
-          owner-is = ap (λ (x : Slot). x .owner) (slot-is ∙ slot-read bs (n - 1) (omega (arith, slot-within))) ∙ sym (ap (λ (h : Head). h .owner) read)
+        pub lends-owner : s .attributes ≡ 84 → v .answer ≡ 100 → s .owner ≡ lendsTo t q
+        unfolding lendsBy
+        lends-owner h waiting =
+            let task : isTask t q ≡ true = both-and (le-leb 1 q low) (le-leb q (length (t .tasks)) (rw length-tasks high)) in
+            let lent = both-and task (both-and (eq-eqb (v .answer) 100 waiting) (both-and (names-it .holds) (eq-eqb _ 84 (attributes-are ∙ h)))) in
+            sym (by ∙ if-yes _ _ lent ∙ owner-is)
 
-          pub lends-nothing : (s .attributes ≡ 84 → ⊥) → 0 ≡ lendsTo t q
-          unfolding lendsBy
-          lends-nothing h =
-              sym (by ∙ if-no _ _ (if-yes _ _ task ∙ if-yes _ _ waits-now ∙ if-yes _ _ (names-it .holds) ∙ ne-eqb _ 84 (λ e. h (sym attributes-are ∙ e))))
-
-          pub lends-owner : s .attributes ≡ 84 → s .owner ≡ lendsTo t q
-          unfolding lendsBy
-          lends-owner h =
-              sym (by ∙ if-yes _ _ (both-and task (both-and waits-now (both-and (names-it .holds) (eq-eqb _ 84 (attributes-are ∙ h))))) ∙ owner-is)
+      pub lends-nothing : (s .attributes ≡ 84 → ⊥) → 0 ≡ lendsTo t q
+      lends-nothing h =
+          elim (ℕ-discrete (slotNamed t (v .awaited)) 0) [
+            | yes none ↦ lends-unnamed none
+            | no some ↦ nothing (and-second _ (and-second _ (and-second _ (ne-eqb _ 84 (λ e. h (sym (attributes-are some) ∙ e))))))
+          ]
 
 -- ---- the list of all tasks
 
@@ -203,7 +198,7 @@ module _ (t : Tables) (q links own : ℕ) (is : own ≡ taskOf t q .priority) wh
     pub least-passed : (getD to i 0 ≡ q → ⊥) → leastTo i ≡ leastTo (i + 1)
     unfolding leastOf
     least-passed n =
-        sym (ap leastTo (add-one i) ∙ if-no _ _ (if-no _ _ (ap (λ (b : Bool). leb 1 q and b) (ne-eqb _ q (λ e. n (listed ∙ e))) ∙ choose-same (leb 1 q) false)))
+        sym (ap leastTo (add-one i) ∙ if-no _ _ (if-no _ _ (and-second _ (ne-eqb _ q (λ e. n (listed ∙ e))))))
 
     pub least-taken : (q ≡ 0 → ⊥) → getD to i 0 ≡ q → (lent least : ℕ) → lent ≡ workingWith t (links - 1) (i + 1) → least ≡ leastTo i
         → choose (ltb lent least) lent least ≡ leastTo (i + 1)

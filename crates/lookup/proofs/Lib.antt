@@ -4,4 +4,3 @@ pub mod Answers
 pub mod LastLook
 pub mod CallerAndSlot
 pub mod Lending
-pub mod ServingOrder

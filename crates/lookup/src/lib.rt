@@ -1,6 +1,5 @@
 // What the calls ask of the tables. Nothing here writes.
 pub mod looks;
-pub mod serving;
 pub mod working;
 
 use rules::Best;

@@ -39,15 +39,16 @@ fn lends_to(m: &[u8], q: u32) -> u32
         return 0;
     }
     let v = tables::load_task(m, (q - 1) as usize);
+    // Few semaphores have 84: that is asked first, at the place where the slot of the identifier stands if it names one.
+    let place = (v.awaited % rules::GENERATION_UNIT + rules::MAX_SLOTS - 1) % rules::MAX_SLOTS;
+    let s = tables::load_head(m, place as usize);
+    if s.attributes != rules::INHERITANCE {
+        return 0;
+    }
     if v.answer != rules::WAITING {
         return 0;
     }
-    let n = super::slot_named(m, v.awaited);
-    if n == 0 {
-        return 0;
-    }
-    let s = tables::load_head(m, n as usize - 1);
-    if s.attributes != rules::INHERITANCE {
+    if super::slot_named(m, v.awaited) == 0 {
         return 0;
     }
     s.owner

@@ -1,7 +1,8 @@
 -- `lookup::working::lends_to` meets its contract: each test on the way is one of the definition.
 use borrow.Author.Needs.{needs}
+use mathlib.Core.Path.{sym, _∙_}
 use native.Mathlib.Omega.{arith}
-use Rattle.lookup.proofs.Lending.{lends-low, lends-above, lends-ready, lends-unnamed, slot-within, lends-nothing, lends-owner}
+use Rattle.lookup.proofs.Lending.{lends-low, lends-above, lends-ready, lends-unnamed, lends-nothing, lends-owner}
 use Rattle.lookup.proofs.working.lends_to.Statement.{statement}
 use Rattle.lookup.proofs.working.lends_to.Tie as tie
 
@@ -20,46 +21,43 @@ cast-load-task c = search needs
 load-task-requires : tie.Need-load-task-requires
 load-task-requires c κs = search needs
 
-returns-3 : tie.Need-returns-3
-returns-3 c =
-    let call = c .before .before .before .before .before .before .before .args in
-    lends-ready (call .m .now) (call .q) _ (omega arith) (omega arith) (c .before .before .load-task .ensures) (c .if3 .taken)
+add-place : tie.Need-add-place
+add-place c = search needs
 
-slot-named-requires : tie.Need-slot-named-requires
-slot-named-requires c κs = search needs
-
-returns-4 : tie.Need-returns-4
-returns-4 c =
-    let call = c .before .before .before .before .before .before .before .before .before .args in
-    lends-unnamed (call .m .now) (call .q) _ (omega arith) (omega arith) (c .before .before .before .before .load-task .ensures)
-    (c .before .before .if3 .left) _ (c .before .slot-named .ensures) (c .if4 .taken)
+sub-place : tie.Need-sub-place
+sub-place c = search needs
 
 cast-load-head : tie.Need-cast-load-head
 cast-load-head c = search needs
 
-sub-load-head : tie.Need-sub-load-head
-sub-load-head c = search needs
-
 load-head-requires : tie.Need-load-head-requires
-load-head-requires c κs =
+load-head-requires c κs = search needs
+
+returns-3 : tie.Need-returns-3
+returns-3 c =
     let start = c .before .before .before .before .before .before .before .before .before in
-    let within = slot-within (start .args .m .now) (start .args .q) _ (omega arith) (omega arith) (c .before .before .before .before .load-task .ensures)
-    (c .before .before .if3 .left) _ (c .before .slot-named .ensures) (c .if4 .left) in
-    (start .pre .long, omega (arith, within, start .pre .slots))
+    lends-nothing (start .args .m .now) (start .args .q) _ (omega arith) (omega arith) (c .before .before .before .before .load-task .ensures)
+    (start .pre .slots) _ (c .before .before .load-head .ensures) (c .if3 .taken)
+
+returns-4 : tie.Need-returns-4
+returns-4 c =
+    let start = c .before .before .before .before .before .before .before .before .before .before .before in
+    lends-ready (start .args .m .now) (start .args .q) _ (omega arith) (omega arith) (c .before .before .before .before .before .before .load-task .ensures) (c .if4 .taken)
+
+slot-named-requires : tie.Need-slot-named-requires
+slot-named-requires c κs = search needs
 
 returns-5 : tie.Need-returns-5
 returns-5 c =
-    let start = c .before .before .before .before .before .before .before .before .before .before .before .before in
-    lends-nothing (start .args .m .now) (start .args .q) _ (omega arith) (omega arith)
-    (c .before .before .before .before .before .before .before .load-task .ensures) (c .before .before .before .before .before .if3 .left) _
-    (c .before .before .before .before .slot-named .ensures) (c .before .before .before .if4 .left) _ (c .before .before .load-head .ensures) (c .if5 .taken)
+    let start = c .before .before .before .before .before .before .before .before .before .before .before .before .before in
+    lends-unnamed (start .args .m .now) (start .args .q) _ (omega arith) (omega arith) (c .before .before .before .before .before .before .before .before .load-task .ensures)
+    (sym (c .before .slot-named .ensures) ∙ c .if5 .taken)
 
 returns-6 : tie.Need-returns-6
 returns-6 c =
-    let start = c .before .before .before .before .before .before .before .before .before .before .before .before in
-    lends-owner (start .args .m .now) (start .args .q) _ (omega arith) (omega arith)
-    (c .before .before .before .before .before .before .before .load-task .ensures) (c .before .before .before .before .before .if3 .left) _
-    (c .before .before .before .before .slot-named .ensures) (c .before .before .before .if4 .left) _ (c .before .before .load-head .ensures) (c .if5 .left)
+    let start = c .before .before .before .before .before .before .before .before .before .before .before .before .before in
+    lends-owner (start .args .m .now) (start .args .q) _ (omega arith) (omega arith) (c .before .before .before .before .before .before .before .before .load-task .ensures)
+    (start .pre .slots) _ (c .before .before .before .before .before .before .load-head .ensures) (λ z. c .if5 .left (c .before .slot-named .ensures ∙ z)) (c .before .before .before .before .if3 .left) (c .before .before .if4 .left)
 
 pub lends-to-spec : {M : Type 1} → statement M
 lends-to-spec =
@@ -70,11 +68,12 @@ lends-to-spec =
     returns-2
     cast-load-task
     load-task-requires
-    returns-3
-    slot-named-requires
-    returns-4
+    add-place
+    sub-place
     cast-load-head
-    sub-load-head
     load-head-requires
+    returns-3
+    returns-4
+    slot-named-requires
     returns-5
     returns-6)
