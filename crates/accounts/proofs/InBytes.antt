@@ -99,7 +99,7 @@ history_is g [] f = refl
 history_is {bs} g (r ∷ rs) f =
     let fits = and_both _ _ f in
     ap₂ {C = List Event} (λ (e : Event) (es : List Event). e ∷ es) (seen_same g r fits.0)
-    (history_is (agreeing g r fits.0) rs fits.1 ∙ ap (λ (t : Tables). history_of t rs) (model g r fits.0))
+    (history_is {bs = (reply_of bs r).bytes} (agreeing g r fits.0) rs fits.1 ∙ ap (λ (t : Tables). history_of t rs) (model g r fits.0))
 
 -- ---- from any bytes that agree
 

@@ -1,4 +1,6 @@
 // The test for 25: whether lent bytes are the layout of tables that agree. Each task and each place of a queue is read once. Nothing here writes to them.
+#![tactic(auto)]
+
 ghost use Rattle.std.specs.Prelude.{◌≡◌, List, [], ℕ, suc, ◌+◌, ◌*◌, ◌≤◌, ◌<◌, length};
 ghost use Rattle.laws.specs.Choose.{◌and◌};
 ghost use Rattle.words.specs.Words.{word_at};

@@ -7,7 +7,7 @@ ghost use Rattle.calls.specs.Entered.{Enters};
 use semaphore::Semaphore;
 
 // Why the call is refused, or 0, and then the slot's number and its semaphore.
-#[derive(Drop)]
+#[derive(Clone, Copy)]
 pub struct Entered {
     pub refusal: u32,
     pub slot: u32,

@@ -10,14 +10,14 @@ use lookup::looks;
 use rules::Answer;
 
 // What an ident answers, and how many slots its search looked at.
-#[derive(Drop)]
+#[derive(Clone, Copy)]
 pub struct Searched {
     pub answer: Answer,
     pub looked: u32,
 }
 
 // The same before the next task is asked for.
-#[derive(Drop)]
+#[derive(Clone, Copy)]
 struct Sought {
     done: Done,
     looked: u32,

@@ -1,4 +1,6 @@
 // The calls on agreeing tables, in place on lent bytes: checks that only read, then one step. A module each, in document 01's order.
+#![tactic(auto)]
+
 mod create;
 mod delete;
 mod enter;
@@ -20,8 +22,8 @@ ghost use Rattle.calls.specs.Reply.{Does, Replied, reply};
 use rules::{Answer, Call};
 
 // What a call has done: its status and its value. The next task is read of what it leaves.
-#[derive(Drop)]
-struct Done(u32, u32);
+#[derive(Clone, Copy)]
+pub struct Done(u32, u32);
 
 // What every call ends with: its answer, with the next task as the tables are then.
 fn answer(m: &[u8], done: Done) -> Answer

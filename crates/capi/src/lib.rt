@@ -1,4 +1,6 @@
 // The manager's entry points as C functions. A slice passes as a pointer and a length; include/mastclover.h declares them.
+#![tactic(auto)]
+
 ghost use Rattle.std.specs.Prelude.{◌≡◌, []};
 ghost use Rattle.rules.specs.declared.Call.TheVariants.{Start, Create, Ident, Delete, Obtain, Release, Flush, Tick};
 ghost use Rattle.rules.specs.Semaphore.{wait_of};

@@ -1,4 +1,6 @@
 // The ITRON calls as C functions, in an object of their own: a firmware that does not call them does not link them.
+#![tactic(auto)]
+
 ghost use Rattle.std.specs.Prelude.{◌≡◌};
 ghost use Rattle.itron.specs.Codes.{code_of};
 ghost use Rattle.itron.specs.Calls.{cre_sem, del_sem, sig_sem, wai_sem, preq_sem, twai_sem};

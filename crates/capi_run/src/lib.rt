@@ -1,4 +1,6 @@
 // The runner of guarded sections as a C function, in an object of its own: a firmware that does not call it does not link it.
+#![tactic(auto)]
+
 ghost use Rattle.std.specs.Prelude.{◌≡◌};
 ghost use Rattle.runner.specs.Reply.{ran, run_reply};
 

@@ -1,4 +1,6 @@
 // The state file as C functions, in an object of its own: a firmware that does not call them does not link them.
+#![tactic(auto)]
+
 ghost use Rattle.state.specs.Reply.{Replied, save_reply, load_reply};
 
 use rules::Answer;

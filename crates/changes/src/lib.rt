@@ -1,4 +1,6 @@
 // Steps that write the tables in lent bytes. Tasks and slots go by their numbers, counted from 1.
+#![tactic(auto)]
+
 ghost use Rattle.std.specs.Prelude.{◌≡◌, map, ◌++◌, ℕ, suc, ◌+◌, ◌≤◌, ◌<◌, leb, length, get_or, take};
 ghost use Rattle.laws.specs.Choose.{◌and◌};
 ghost use Rattle.rules.specs.Machine.{Slot, Tables, unstarted, with_tasks, with_slots, with_ready, slot_of, put_task, put_slot, waits};

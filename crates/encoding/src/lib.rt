@@ -1,4 +1,6 @@
 // A run's numbers, laid end to end: scripts, events, memory, places and grants.
+#![tactic(auto)]
+
 pub mod events;
 pub mod memory;
 pub mod outset;
@@ -6,7 +8,7 @@ pub mod places;
 pub mod rows;
 
 // A row of a script: a kind, and what the kind takes.
-#[derive(Drop)]
+#[derive(Clone, Copy)]
 pub struct Row {
     pub kind: u32,
     pub a: u32,
@@ -15,7 +17,7 @@ pub struct Row {
 }
 
 // A task's script: its place in the list and its row, the number of rows where there is none.
-#[derive(Drop)]
+#[derive(Clone, Copy)]
 pub struct Found {
     pub index: usize,
     pub row: usize,

@@ -1,4 +1,6 @@
 // The semaphore calls of ITRON 3.0 over the manager's, on lent tables and a lent list of any length and content. Each tests first that both agree.
+#![tactic(auto)]
+
 ghost use Rattle.std.specs.Prelude.{◌≡◌};
 ghost use Rattle.rules.specs.Machine.{next};
 ghost use Rattle.tables.specs.Layout.{model_of};

@@ -1,4 +1,6 @@
 // A session's line: the scan of its bytes and the print of its answer.
+#![tactic(auto)]
+
 ghost use Rattle.std.specs.Prelude.{◌≡◌, ◌++◌, ◌∷◌, [], ◌+◌, ◌*◌, ◌≤◌, ◌<◌, length, get_or, take, drop};
 ghost use Rattle.line.specs.Line.{line_of, scanned, same_bytes};
 ghost use Rattle.line.specs.Scan.{first, others, all_numbers, numbers_read, placed, digit_behind, word_of, with_count, asked_by};
@@ -7,14 +9,14 @@ ghost use Rattle.line.specs.Print.{answer_line, bad_line, decimal, spliced};
 use rules::{Answer, Call, wait_of};
 
 // What a line asks, with how many numbers stand behind a start's first: they are left in the numbers lent to the scan.
-#[derive(Drop)]
+#[derive(Clone, Copy)]
 pub enum Line {
     Bad,
     Request { call: Call, count: usize },
 }
 
 // The words that a line may begin with.
-#[derive(Drop)]
+#[derive(Clone, Copy)]
 enum Word {
     Start,
     Create,
@@ -28,14 +30,14 @@ enum Word {
 }
 
 // What one more byte makes of a number.
-#[derive(Drop)]
+#[derive(Clone, Copy)]
 enum Digit {
     Broken,
     Value(u32),
 }
 
 // What is read behind the word.
-#[derive(Drop)]
+#[derive(Clone, Copy)]
 pub enum Numbers {
     Broken,
     Count(usize),
@@ -242,7 +244,7 @@ pub fn scan(line: &[u8], numbers: &mut [u32; 128]) -> Line
 }
 
 // A number's text in decimal with the byte that ends it: it begins at `from`.
-#[derive(Drop)]
+#[derive(Clone, Copy)]
 pub struct Text {
     pub bytes: [u8; 11],
     pub from: usize,

@@ -1,4 +1,6 @@
 // What the calls ask of the tables. Nothing here writes.
+#![tactic(auto)]
+
 pub mod looks;
 pub mod working;
 

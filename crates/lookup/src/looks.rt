@@ -5,7 +5,7 @@ ghost use Rattle.tables.specs.Layout.{slot_place, model_of};
 ghost use Rattle.lookup.specs.Search.{no_look, next_look, last_look, is_match, search_length, Reaches};
 
 // The slot looked at last, and how many were looked at with it.
-#[derive(Drop)]
+#[derive(Clone, Copy)]
 pub struct Look {
     count: u32,
     pub generation: u32,

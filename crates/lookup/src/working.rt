@@ -7,7 +7,7 @@ ghost use Rattle.tables.specs.Sizes.{Sized};
 ghost use Rattle.lookup.specs.Lending.{lendings, LendersOf};
 
 // Whom each task lends its priority to, 0 for nobody, and how many links of a chain are to be followed: none where nobody lends.
-#[derive(Drop)]
+#[derive(Clone, Copy)]
 pub struct Lenders {
     pub links: u32,
     pub to: [u32; 32],

@@ -145,7 +145,7 @@ runs g [] f = record { agreeing = g; model = refl; answers = refl }
 runs {bs} g (r ∷ rs) f =
     let first = and_both _ _ f in
     let m = left_model g r.call r.priorities first.0 in
-    let rest = runs (left_agreeing g r.call r.priorities first.0) rs first.1 in
+    let rest = runs {bs = (reply_to bs r.call r.priorities).bytes} (left_agreeing g r.call r.priorities first.0) rs first.1 in
     record {
       agreeing = rest.agreeing;
       model = rest.model ∙ ap (λ (t : Tables). after t rs) m;

@@ -1,4 +1,6 @@
 // The entry points on lent bytes of any length and content. Each tests first that the bytes are tables that agree.
+#![tactic(auto)]
+
 ghost use Rattle.std.specs.Prelude.{◌≡◌, []};
 ghost use Rattle.rules.specs.declared.Call.TheVariants.{Start, Create, Ident, Delete, Obtain, Release, Flush, Tick};
 ghost use Rattle.manager.specs.Entry.{Replied, no_next, reply_to, looked_in, task_reply};

@@ -1,4 +1,6 @@
 // The list that maps semid 1..S to a live identifier or nothing, lent beside the tables.
+#![tactic(auto)]
+
 pub mod entries;
 
 ghost use Rattle.std.specs.Prelude.{◌≡◌, ◌<◌, ◌≤◌, length};

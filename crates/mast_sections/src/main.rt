@@ -1,6 +1,8 @@
 // Guarded sections from a text: standard input, or the file that the argument names, is run, and what that leaves is printed.
 // What is read and what is written no contract can say. What is done with it they do: the bytes are fed in order and once, the run is
 // that of what they say, and its whole report is handed to standard output.
+#![tactic(auto)]
+
 mod reading;
 mod showing;
 
@@ -20,7 +22,7 @@ const SCRIPTS: usize = 32768;
 const EVENTS: usize = 655360;
 
 // How many bytes were handed to standard output, or that the text could not be read.
-#[derive(Drop)]
+#[derive(Clone, Copy)]
 enum Ended {
     Handed(usize),
     Unread,

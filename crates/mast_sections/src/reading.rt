@@ -7,7 +7,7 @@ use text::At;
 use text::feeding::{Fed, Progress};
 
 // What a read gave: so many bytes at the front of the buffer, the end of the input, or an error.
-#[derive(Drop)]
+#[derive(Clone, Copy)]
 pub enum Heard {
     Bytes(usize),
     End,
@@ -15,7 +15,7 @@ pub enum Heard {
 }
 
 // After a read: more is to come, all is read, the text has a fault, or it could not be read.
-#[derive(Drop)]
+#[derive(Clone, Copy)]
 pub enum Taken {
     More(Progress),
     Read(At),

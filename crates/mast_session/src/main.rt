@@ -1,4 +1,6 @@
 // A session in text: standard input, or the file that the argument names, is answered on standard output.
+#![tactic(auto)]
+
 ghost use Rattle.std.specs.Prelude.{◌≡◌};
 ghost use Rattle.rules.specs.Machine.{unstarted};
 ghost use Rattle.tables.specs.Layout.{laid};

@@ -7,7 +7,7 @@ ghost use Rattle.mast_state.specs.Loaded.{Within, Loads, LoadsSome};
 use libc::STDERR_FILENO;
 
 // A file that was read: so many bytes at the front of the buffer, or that it could not be read.
-#[derive(Drop)]
+#[derive(Clone, Copy)]
 pub enum Read {
     Bytes(usize),
     Failed,

@@ -1,6 +1,8 @@
 // Machines in state files: the machine that a session leaves is saved, a saved one is shown, and a session goes on from it.
 // What is read and what is written no contract can say. What is done with it they do: which bytes a file gets, what the bytes of a file are
 // taken for, and from which tables a session is answered.
+#![tactic(auto)]
+
 mod loading;
 mod saving;
 mod sessions;
@@ -13,7 +15,7 @@ ghost use Rattle.mast_state.specs.Command.{command_of};
 
 use libc::STDERR_FILENO;
 
-#[derive(Drop)]
+#[derive(Clone, Copy)]
 enum Command {
     Save,
     Show,

@@ -1,4 +1,6 @@
 // The run that a text says, and its report with the plain run beside it.
+#![tactic(auto)]
+
 ghost use Rattle.std.specs.Prelude.{◌≡◌, ◌-◌, ◌≤◌, length, take, drop};
 ghost use Rattle.tables.specs.Layout.{tables_length};
 ghost use Rattle.sections.specs.Scripts.{plain};

@@ -1,4 +1,6 @@
 // The plain run: the granted sections one after another, each whole.
+#![tactic(auto)]
+
 pub mod tasks;
 
 ghost use Rattle.std.specs.Prelude.{◌≡◌, ◌+◌, ◌/◌, ◌≤◌, ◌<◌, length, drop};

@@ -1,6 +1,8 @@
 // A session played from a descriptor: what is read is answered on standard output.
 // What is read and what is written no contract can say. What is done with it they do: which bytes the session is fed, in order and once,
 // and that every byte it says is handed to standard output.
+#![tactic(auto)]
+
 ghost use Rattle.std.specs.Prelude.{◌≡◌, true, false, ◌≤◌, length};
 ghost use Rattle.session.specs.Kept.{keeps};
 ghost use Rattle.playing.specs.Turns.{Turned, Answers, Ends, Within, Does, DoesSome, Ran};
@@ -8,7 +10,7 @@ ghost use Rattle.playing.specs.Turns.{Turned, Answers, Ends, Within, Does, DoesS
 use libc::STDOUT_FILENO;
 
 // What a read gave: so many bytes at the front of the buffer, the end of the input, or an error.
-#[derive(Drop)]
+#[derive(Clone, Copy)]
 enum Heard {
     Bytes(usize),
     End,
@@ -17,7 +19,7 @@ enum Heard {
 
 // After a turn: how many bytes of the input were fed, how long the line is that has begun, how many bytes were handed to standard output,
 // whether to go on, and whether all is done: the input has ended, and standard output took the last answer.
-#[derive(Drop)]
+#[derive(Clone, Copy)]
 struct Turn {
     pub taken: usize,
     pub begun: usize,
@@ -27,7 +29,7 @@ struct Turn {
 }
 
 // How many bytes were handed to standard output, and whether it took them all.
-#[derive(Drop)]
+#[derive(Clone, Copy)]
 pub struct Said {
     pub length: usize,
     pub going: bool,

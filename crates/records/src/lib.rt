@@ -1,4 +1,6 @@
 // A caller's own task records: the next task of a lent list of them as it lies, and one woken where it stands.
+#![tactic(auto)]
+
 ghost use Rattle.std.specs.Prelude.{◌≡◌, pred, get_or};
 ghost use Rattle.rules.specs.Calls.{readied};
 ghost use Rattle.records.specs.Beside.{next_of};

@@ -1,4 +1,6 @@
 // What a run on agreeing tables refuses before its first event.
+#![tactic(auto)]
+
 mod tests;
 
 ghost use Rattle.std.specs.Prelude.{◌≡◌, true, List, ℕ};

@@ -1,4 +1,6 @@
 // The text that a run of guarded sections leaves.
+#![tactic(auto)]
+
 mod lines;
 mod scripts;
 mod serial;

@@ -6,7 +6,7 @@ ghost use Rattle.report.specs.Report.{Fits, Written, paired, pair_text, pairs_te
 use super::lines;
 
 // Where the line of open sections ends, and whether it names none.
-#[derive(Drop)]
+#[derive(Clone, Copy)]
 pub struct Opened {
     pub end: usize,
     pub none: bool,

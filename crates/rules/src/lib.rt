@@ -1,4 +1,6 @@
 // The records of calls and tables; specs/ has the rules of document 01 over them.
+#![tactic(auto)]
+
 ghost use Rattle.std.specs.Prelude.{◌≡◌, true, List, ◌∷◌, ℕ, length};
 ghost use Rattle.rules.specs.Numbers.{allowed, by_priority, is_binary, is_simple, class_maximum, allowed_count};
 ghost use Rattle.rules.specs.Machine.{Tables, is_task, most_urgent};
@@ -62,7 +64,7 @@ pub const GENERATION_UNIT: u32 = 65536;
 
 // A task: ready or waiting. Its answer is 100 exactly while it waits, else the ending of its latest wait.
 #[repr(C)]
-#[derive(Drop)]
+#[derive(Clone, Copy)]
 pub struct Task {
     pub priority: u32,
     pub answer: u32,
@@ -73,7 +75,7 @@ pub struct Task {
 }
 
 // How an obtain waits.
-#[derive(Drop)]
+#[derive(Clone, Copy)]
 pub enum Wait {
     Poll,
     Forever,
@@ -82,7 +84,7 @@ pub enum Wait {
 }
 
 // A call. The priorities of a start stand beside it: a list in an enum is not covered by the prover.
-#[derive(Drop)]
+#[derive(Clone, Copy)]
 pub enum Call {
     Start {
         slots: u32,
@@ -119,7 +121,7 @@ pub enum Call {
 
 // What each call answers.
 #[repr(C)]
-#[derive(Drop)]
+#[derive(Clone, Copy)]
 pub struct Answer {
     pub status: u32,
     pub value: u32,
@@ -239,7 +241,7 @@ pub fn is_count_allowed(count: u32, attributes: u32, maximum: u32) -> bool
 pub const ABOVE_ALL: u32 = 256;
 
 // The first task of the least number among those seen so far, 0 for none, and that number.
-#[derive(Drop)]
+#[derive(Clone, Copy)]
 pub struct Best {
     pub task: u32,
     pub priority: u32,

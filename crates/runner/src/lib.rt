@@ -1,4 +1,6 @@
 // The runner of guarded sections.
+#![tactic(auto)]
+
 mod running;
 mod settle;
 mod turns;

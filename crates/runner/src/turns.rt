@@ -16,7 +16,7 @@ use encoding::{Row, memory, places, rows};
 use rules::Call;
 
 // Nothing, a call, or a step; then the script stands at that place.
-#[derive(Drop)]
+#[derive(Clone, Copy)]
 pub enum Act {
     Nothing,
     Calls {

@@ -1,4 +1,6 @@
 // One slot of the tables, with its queue, as a record that is passed and returned by value.
+#![tactic(auto)]
+
 ghost use Rattle.std.specs.Prelude.{◌≡◌, ℕ, ◌+◌, ◌≤◌, ◌<◌, ltb, length, take};
 ghost use Rattle.laws.specs.Choose.{choose, ◌and◌};
 ghost use Rattle.laws.specs.Rows.{fit};
@@ -11,7 +13,7 @@ ghost use Rattle.semaphore.specs.Record.{Stands, TakenIs, GivenIs, FlushedIs, ke
 
 use rules::Wait;
 
-#[derive(Drop)]
+#[derive(Clone, Copy)]
 pub struct Semaphore {
     pub generation: u32,
     // 1 live, 0 free
@@ -29,14 +31,14 @@ pub struct Semaphore {
 }
 
 // What a take hands back: the status (0, 13 or 100) and the record after it.
-#[derive(Drop)]
+#[derive(Clone, Copy)]
 pub struct Taken {
     pub status: u32,
     pub semaphore: Semaphore,
 }
 
 // What a give hands back: the status (0, 13 or 23), the task that is woken or 0, and the record after it.
-#[derive(Drop)]
+#[derive(Clone, Copy)]
 pub struct Given {
     pub status: u32,
     pub woken: u32,
@@ -44,14 +46,14 @@ pub struct Given {
 }
 
 // What a flush hands back: the status, always 0, and the record after it; all of the queue is woken.
-#[derive(Drop)]
+#[derive(Clone, Copy)]
 pub struct Flushed {
     pub status: u32,
     pub semaphore: Semaphore,
 }
 
 // What is kept of a queue: how many wait in it, and the tasks, then 0.
-#[derive(Drop)]
+#[derive(Clone, Copy)]
 pub struct Kept {
     pub waiters: u32,
     pub tasks: [u32; 32],

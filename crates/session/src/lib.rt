@@ -1,4 +1,6 @@
 // A session over the calls. Its input comes in parts of any size, and what it keeps between two is bounded: the tables, and one line's bytes.
+#![tactic(auto)]
+
 ghost use Rattle.std.specs.Prelude.{◌≡◌, List, ℕ, ◌+◌, ◌-◌, ◌≤◌, length, take, drop};
 ghost use Rattle.manager.specs.Entry.{Replied, reply_to};
 ghost use Rattle.session.specs.Kept.{keeps, respond, end_line, lengthen, at_end};
@@ -9,7 +11,7 @@ use rules::{Answer, Call};
 
 // What feeding a part did: how many of its bytes were taken, how many of the output written, and how long the line is that has begun (257
 // where it is longer than 256).
-#[derive(Drop)]
+#[derive(Clone, Copy)]
 pub struct Fed {
     pub taken: usize,
     pub written: usize,
@@ -84,7 +86,7 @@ fn end_line(m: &mut [u8], line: &[u8], begun: usize, out: &mut [u8], at: usize) 
 }
 
 // One byte of the input: where its answer ends, and how long the line is then.
-#[derive(Drop)]
+#[derive(Clone, Copy)]
 struct Stepped {
     pub at: usize,
     pub begun: usize,

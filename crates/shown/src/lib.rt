@@ -1,4 +1,6 @@
 // A machine in words that a person reads.
+#![tactic(auto)]
+
 mod semaphores;
 mod sequence;
 mod tasks;

@@ -5,7 +5,7 @@ ghost use Rattle.state.specs.Shape.{Small, is_small, contents_for, is_headed, Ha
 ghost use Rattle.words.specs.Words.{same_words};
 
 // The edition; tasks, slots, the numbers of body 3, and ready tasks.
-#[derive(Drop)]
+#[derive(Clone, Copy)]
 pub struct Counts {
     pub edition: u32,
     pub tasks: u32,

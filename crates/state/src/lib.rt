@@ -1,4 +1,6 @@
 // The state file: written from lent tables and read into them, in place. Neither is asked anything: each tests what it is lent.
+#![tactic(auto)]
+
 mod contents;
 mod reading;
 mod writing;

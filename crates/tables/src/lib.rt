@@ -1,4 +1,6 @@
 // Load and store of the tables in lent bytes. Tasks and slots are counted from 0 here.
+#![tactic(auto)]
+
 ghost use Rattle.std.specs.Prelude.{◌≡◌, pred, ◌+◌, ◌*◌, ◌≤◌, ◌<◌, [], ◌∷◌, ◌++◌, length, get_or, set, take};
 ghost use Rattle.std.proofs.lemmas.List.Edits.{sets};
 ghost use Rattle.words.specs.Words.{bytes_of, word_at};
@@ -55,7 +57,7 @@ const WAITERS: usize = 8;
 const QUEUE: usize = 9;
 
 // The words of a slot before its queue, for those who read the queue where it lies.
-#[derive(Drop)]
+#[derive(Clone, Copy)]
 pub struct Head {
     pub generation: u32,
     pub live: u32,

@@ -6,7 +6,7 @@ ghost use Rattle.text.specs.Feeding.{lent, keeping, end_line, lengthen, take_byt
 use super::{At, Next, reading};
 
 // How much is read, how long the line is that has begun (257 where it is longer than 256), and how many lines have ended.
-#[derive(Drop)]
+#[derive(Clone, Copy)]
 pub struct Progress {
     pub at: At,
     pub begun: usize,
@@ -14,7 +14,7 @@ pub struct Progress {
 }
 
 // After some bytes: what is kept, or the first fault with the number of its line.
-#[derive(Drop)]
+#[derive(Clone, Copy)]
 pub enum Fed {
     Keeps(Progress),
     Faults { line: u32, fault: u32 },

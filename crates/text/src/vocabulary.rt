@@ -48,7 +48,7 @@ const TAKES: [usize; 21] = [
 ];
 
 // What a line says: its word and how many numbers, 0 and none where it is no line of these.
-#[derive(Drop)]
+#[derive(Clone, Copy)]
 pub struct Spoken {
     pub word: u32,
     pub count: usize,

@@ -1,4 +1,6 @@
 // Words of four bytes, high byte first, in lent bytes. Every index counts words.
+#![tactic(auto)]
+
 ghost use Rattle.std.specs.Prelude.{◌≡◌, ◌+◌, ◌*◌, ◌≤◌, ◌<◌, length};
 ghost use Rattle.std.proofs.lemmas.List.Edits.{sets};
 ghost use Rattle.words.specs.Words.{bytes_of_word, bytes_of_swapped, bytes_of, word_at, blank, same_words, swapped};

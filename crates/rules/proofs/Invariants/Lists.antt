@@ -32,7 +32,7 @@ module _ {A : Type 0} where
 
   -- a function that keeps the value outside
   pub get_d_map : (f : A → A) (l : List A) (j : ℕ) (d : A) → f d ≡ d → get_or (map f l) j d ≡ f (get_or l j d)
-  get_d_map f l j d e = subst (λ (z : A). get_or (map f l) j z ≡ f (get_or l j d)) e (ListN.get_d_map f l j d)
+  get_d_map f l j d e = subst (λ (z : A). get_or (map f l) j z ≡ f (get_or l j d)) e (ListN.get_or-map f l j d)
 
 -- one place of the second differs from the first, and is a
 pub record Updated {A : Type 0} (f g : ℕ → A) (i : ℕ) (a : A) : Type 0 where
