@@ -1,4 +1,4 @@
--- Runs over tables beside a list, as afterEvents has them over bytes.
+-- Runs over tables beside a list, as `after_events` has them over bytes.
 use mathlib.Core.Bool.{Bool}
 use mathlib.Core.List.{List, [], ◌∷◌}
 use Prim.Native.Nat.{ℕ}

@@ -83,7 +83,7 @@ pub enum Wait {
     Ticks(u32),
 }
 
-// A call. The priorities of a start stand beside it: a list in an enum is not covered by the prover.
+// A call. The priorities of a start stand beside it, in a lent list of their own.
 #[derive(Clone, Copy)]
 pub enum Call {
     Start {
