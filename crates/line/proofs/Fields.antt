@@ -8,7 +8,6 @@ use native.Mathlib.Decide.{ℕ_discrete, dec_lt}
 use lib.Dec.{eqb}
 use lib.ListN.{length, get_or, take, drop, drop_of_length-le, get_or-eq_default}
 use lib.Seq.{drop-cons}
-use borrow.Author.Tests.{eqb-false}
 use Rattle.laws.specs.Choose.{choose}
 use Rattle.laws.proofs.Choose.{choose_cases, if_ne}
 use Rattle.line.specs.Line.{fields, onto_first}

@@ -1,13 +1,12 @@
 -- Decimal digits from the back, and text written over a list.
-use mathlib.Core.Path.{◌≡◌, refl, sym, ap, subst, ◌∙◌}
-use mathlib.Core.List.{List, [], ◌∷◌, ◌++◌, append_assoc, append-nil}
-use Prim.Native.Nat.{ℕ, zero, suc, ◌+◌, ◌-◌, ◌*◌, ◌/◌, ◌%◌, ◌^◌, ◌≤◌, ◌<◌}
+use mathlib.Core.Path.{◌≡◌, refl, sym, ap, ◌∙◌}
+use mathlib.Core.List.{List, [], ◌∷◌, ◌++◌, append_assoc}
+use Prim.Native.Nat.{ℕ, zero, suc, ◌+◌, ◌-◌, ◌/◌, ◌%◌, ◌^◌, ◌≤◌, ◌<◌}
 use native.Mathlib.Nat.{pow-succ', zero-add, le_refl}
-use native.Mathlib.Numerals.{add-one}
 use native.Mathlib.Omega.{arith}
 use lib.Dec.{leb}
 use lib.ListN.{length, take, drop, set, length-append, length-drop, length-set}
-use lib.Seq.{paste, take_all, take-length, take_at, drop_at, drop-cons, drop-drop, drop-set-lt, get_or-set_same, length-take-le, drop-append-add}
+use lib.Seq.{paste, take_all, take-length, take_at, drop-cons, drop-drop, drop-set-lt, get_or-set_same, length-take-le, drop-append-add}
 use Rattle.laws.specs.Choose.{choose}
 use Rattle.laws.proofs.Choose.{choose_cases, choose_map, if_le, if_not_le}
 use Rattle.line.specs.Print.{digits_before, decimal, answer_line, spliced}

@@ -5,7 +5,6 @@ use mathlib.Core.List.{List, [], ◌∷◌, ◌++◌, append-nil, append_assoc}
 use mathlib.Core.Logic.{⊎_elim}
 use mathlib.Core.Option.{Option, none, some}
 use Prim.Native.Nat.{ℕ, suc, ◌+◌, ◌-◌, ◌*◌, ◌≤◌, ◌<◌}
-use native.Mathlib.Numerals.{add-one}
 use native.Mathlib.Omega.{arith}
 use lib.Dec.{leb, eqb}
 use lib.ListN.{length, get_or, drop, drop_of_length-le}
@@ -15,7 +14,7 @@ use Rattle.laws.proofs.Choose.{choose_same, tested, never, if_yes, if_no}
 use Rattle.line.specs.Line.{are_numbers, numbers, spelled}
 use Rattle.line.specs.Scan.{first, others, all_numbers, goes_on, digit_behind}
 use Rattle.line.specs.declared.Digit.TheVariants.{Broken, Value}
-use Rattle.line.proofs.Fields.{first_none, others_none, others_space, first_cons, others_cons, from_here, field_ends, in_line}
+use Rattle.line.proofs.Fields.{others_none, others_space, first_cons, others_cons, from_here, field_ends, in_line}
 use Rattle.line.proofs.Digits.{goes_on_by, is_number_lem}
 
 -- between two fields: `ns` are read, and the rest begins with a space or is empty

@@ -1,14 +1,13 @@
 -- The comparison of two words byte by byte, the length of a line's first word, and what a word asks.
-use mathlib.Core.Path.{◌≡◌, refl, sym, ap, ◌∙◌}
+use mathlib.Core.Path.{◌≡◌, refl, ap, ◌∙◌}
 use mathlib.Core.Bool.{Bool, true, false}
 use mathlib.Core.List.{List, [], ◌∷◌}
-use Prim.Native.Nat.{ℕ, zero, suc, ◌+◌, ◌≤◌, ◌<◌}
+use Prim.Native.Nat.{ℕ, suc, ◌+◌, ◌≤◌, ◌<◌}
 use native.Mathlib.Numerals.{add-one}
-use native.Mathlib.Omega.{arith}
 use lib.Dec.{eqb}
 use lib.ListN.{length, get_or, drop, drop_of_length-le}
 use lib.Seq.{drop-cons}
-use Rattle.laws.specs.Choose.{choose, ◌and◌}
+use Rattle.laws.specs.Choose.{◌and◌}
 use Rattle.laws.proofs.Choose.{if_eq, if_ne, choose_same}
 use Rattle.line.specs.Line.{same_bytes}
 use Rattle.line.specs.Scan.{first}

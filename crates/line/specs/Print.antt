@@ -1,6 +1,5 @@
 -- Document 01, "The session program": the answer line, `status value next`, or `bad`.
 use Rattle.std.specs.Prelude.{List, [], ◌∷◌, ◌++◌, ℕ, zero, suc, ◌+◌, ◌/◌, ◌%◌, leb, length, take, drop}
-use Rattle.std.proofs.Math.Option.{Option, none, some}
 use Rattle.laws.specs.Choose.{choose}
 use Rattle.rules.specs.declared.Answer.{Answer}
 

@@ -1,5 +1,5 @@
 -- The parts of the scan: what each of its functions answers, over the definitions of a line.
-use Rattle.std.specs.Prelude.{Bool, List, [], ℕ, ◌+◌, ◌-◌, ◌*◌, leb, eqb, length, get_or, take, drop}
+use Rattle.std.specs.Prelude.{Bool, List, [], ℕ, ◌+◌, ◌-◌, ◌*◌, leb, eqb, get_or, take, drop}
 use Rattle.std.proofs.Math.Option.{Option, none, some}
 use Rattle.laws.specs.Choose.{choose, ◌and◌, isnt}
 use Rattle.rules.specs.declared.Call.{Call}

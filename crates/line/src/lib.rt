@@ -110,6 +110,7 @@ fn word_of(word: &[u8]) -> Word
 }
 
 // A byte behind `digits` digits that spell `value`.
+#[tactic(auto, using(laws::proofs::Choose::cases, crate::proofs::Reading::first_digit, crate::proofs::Reading::later_digit), unfolding(crate::specs::Scan::digit_behind))]
 fn digit_behind(digits: usize, value: u32, b: u8) -> Digit
     ensures { result ≡ digit_behind digits value b }
 {

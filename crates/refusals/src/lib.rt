@@ -80,6 +80,7 @@ fn is_permitted(m: &[u8], scripts: &[u32], events: &[u32]) -> bool
 }
 
 // Why a run whose lengths fit is refused: 11 over the whole input, then 4; 0 where it is not.
+#[tactic(auto, using(calls::proofs::Agreeing::sized, crate::proofs::Defined::refused_11, crate::proofs::Defined::refused_4, crate::proofs::Defined::not_refused))]
 fn first_refusal(
     m: &[u8],
     scripts: &[u32],

@@ -15,13 +15,13 @@ use Rattle.laws.specs.Rows.{tabulate}
 use Rattle.laws.proofs.Choose.{tested, never, and_both, both_and, or_second, if_yes, if_no, choose_cases}
 use Rattle.laws.proofs.Fit.{length_tabulate, get_d_tabulate}
 use Rattle.rules.specs.Numbers.{max_priority, inherits}
-use Rattle.rules.specs.Machine.{Tables, task_of, slot_of, is_task, is_live, id_of, names, slot_named, waits, lends_to, lends, least_of, working_with, urgency, most_urgent, next}
+use Rattle.rules.specs.Machine.{Tables, task_of, slot_of, is_task, is_live, id_of, slot_named, lends_to, lends, working_with, urgency, most_urgent, next}
 use Rattle.rules.specs.Agreement.{Agrees, is_ready_task, occurs}
-use Rattle.rules.specs.Promises.{behind, LeastBehind, NextIs, MostUrgent}
+use Rattle.rules.specs.Promises.{behind, LeastBehind, NextIs}
 use Rattle.rules.specs.Promises.NextIs.{nobody, somebody}
 use Rattle.rules.proofs.Working.{Found, least_at, least_is, working_most, working_alone}
-use Rattle.rules.proofs.Next.{Stands, stands}
-use Rattle.rules.proofs.Invariants.Lists.{occurs_none, occurs_cons, bit_yes, bit_no, bit_most}
+use Rattle.rules.proofs.Next.{stands}
+use Rattle.rules.proofs.Invariants.Lists.{occurs_none, occurs_cons, bit_yes, bit_no}
 use Rattle.rules.proofs.Invariants.Lists.{occurs_at}
 use Rattle.rules.proofs.Invariants.Facts.{nth_slot, Unheld, Held, Facts}
 use Rattle.rules.proofs.Invariants.FromTests.{agrees_facts}

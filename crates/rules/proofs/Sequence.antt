@@ -3,9 +3,8 @@ use mathlib.Core.Path.{◌≡◌, refl, sym, subst, fun_ext, ap, ap₂, ◌∙�
 use mathlib.Core.Bool.{Bool, true, false}
 use mathlib.Core.List.{List, [], ◌∷◌, ◌++◌, append-nil}
 use mathlib.Core.Logic.{⊎_elim}
-use Prim.Native.Nat.{ℕ, zero, suc, pred, ◌+◌, ◌≤◌, ◌<◌}
+use Prim.Native.Nat.{ℕ, zero, suc, ◌+◌, ◌≤◌, ◌<◌}
 use native.Mathlib.Omega.{arith}
-use native.Mathlib.Nat.{not-suc-le-zero}
 use lib.Dec.{leb, eqb}
 use lib.ListN.{length, get_or, length-set, length-map}
 use lib.Seq.{get_or-set_same, get_or-set_other}
@@ -18,19 +17,18 @@ use Rattle.rules.specs.declared.Task.{Task}
 use Rattle.rules.specs.declared.Wait.{Wait}
 use Rattle.rules.specs.declared.Call.{Call}
 use Rattle.rules.specs.declared.Call.TheVariants.{Start, Create, Ident, Delete, Obtain, Release, Flush, Tick}
-use Rattle.rules.specs.Machine.{Slot, Tables, no_task, slot_of, put_slot, task_of, waits, is_live, slot_named}
+use Rattle.rules.specs.Machine.{Slot, Tables, no_task, slot_of, put_slot, task_of, waits, slot_named}
 use Rattle.rules.specs.Agreement.{Agrees, agrees, is_ready_task, occurs}
 use Rattle.rules.specs.Semaphore.{Taken, take_step, Given, give_step, pass_step}
 use Rattle.rules.specs.Calls.{Outcome, answered, refused, unless, wake, wake_all, up_to, start_refusal, started, start, create_refusal, create}
 use Rattle.rules.specs.Calls.{first_named, ident, delete_refusal, delete, without, begin_wait, blocked, obtain_refusal, obtain, give_of, release_refusal, release}
 use Rattle.rules.specs.Calls.{flush_refusal, flush, expires, timed_out, tick, perform, step}
 use Rattle.rules.specs.Promises.{joining, becomes_ready, sequence_after}
-use Rattle.rules.proofs.Invariants.Lists.{bit_yes, bit_no, bit_most, bit_true, bit_same, occurs_none, occurs_cons, occurs_append, occurs_empty, timed_at}
-use Rattle.rules.proofs.Invariants.Facts.{nth_task, nth_slot, Facts}
+use Rattle.rules.proofs.Invariants.Lists.{bit_yes, bit_no, bit_most, bit_true, bit_same, occurs_none, occurs_cons, occurs_append, timed_at}
+use Rattle.rules.proofs.Invariants.Facts.{nth_task, Facts}
 use Rattle.rules.proofs.Invariants.FromTests.{agrees_facts}
-use Rattle.rules.proofs.Invariants.Links.{once}
 use Rattle.rules.proofs.Invariants.Waking.{wake_all_ready}
-use Rattle.rules.proofs.Invariants.PartsKept.{ready_none, ready_no, ready_same, none_outside, below}
+use Rattle.rules.proofs.Invariants.PartsKept.{ready_none, ready_no, ready_same, none_outside}
 use Rattle.rules.proofs.Invariants.Refusals.{mustnt, Caller, task_only_lem}
 use Rattle.rules.proofs.Invariants.Making.{start_kept}
 use Rattle.rules.proofs.Invariants.Ending.{delete_kept, flush_kept}

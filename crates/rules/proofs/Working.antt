@@ -1,17 +1,15 @@
 -- The working priority (request 8): the least number among a task's own and those of all tasks behind it, however long the chain.
-use mathlib.Core.Path.{◌≡◌, refl, sym, subst, ap, ◌∙◌}
+use mathlib.Core.Path.{◌≡◌, refl, sym, subst, ◌∙◌}
 use mathlib.Core.Bool.{Bool, true, false}
-use mathlib.Core.List.{List, [], ◌∷◌}
 use mathlib.Core.Logic.{◌⊎◌, inl, inr, ⊎_elim}
-use Prim.Native.Nat.{ℕ, zero, suc, pred, ◌+◌, ◌≤◌, ◌<◌}
+use Prim.Native.Nat.{ℕ, zero, suc, ◌≤◌}
 use native.Mathlib.Omega.{arith}
-use native.Mathlib.Nat.{not-suc-le-zero}
 use native.Mathlib.Decide.{ℕ_discrete}
-use lib.Dec.{leb, ltb, eqb}
+use lib.Dec.{leb, ltb}
 use lib.ListN.{length}
-use borrow.Author.Tests.{eqb-true, eq-eqb, leb-true, le-leb, ltb-true, ltb-false}
-use Rattle.laws.specs.Choose.{choose, ◌and◌}
-use Rattle.laws.proofs.Choose.{tested, never, and_both, both_and, if_yes, if_no, choose_cases}
+use borrow.Author.Tests.{eqb-true, leb-true, ltb-true, ltb-false}
+use Rattle.laws.specs.Choose.{◌and◌}
+use Rattle.laws.proofs.Choose.{tested, and_both, if_yes, if_no, choose_cases}
 use Rattle.rules.specs.Machine.{Tables, task_of, lends_to, lends, least_of, working_with}
 
 -- ---- the least of some numbers

@@ -2,7 +2,7 @@
 -- step, and the whole step with the test for 25.
 -- Checks give a status, or 0 for no refusal.
 -- The numbers of a call are those of 32 bits, which `call_fits` of Fits.antt says; the definitions do not depend on it, that agreement is kept does.
-use Rattle.std.specs.Prelude.{Bool, List, [], ◌∷◌, ◌++◌, map, ℕ, suc, ◌+◌, ◌-◌, ◌%◌, leb, ltb, eqb, length, get_or, replicate}
+use Rattle.std.specs.Prelude.{Bool, List, [], ◌∷◌, ◌++◌, map, ℕ, suc, ◌+◌, ◌-◌, leb, ltb, eqb, length, get_or, replicate}
 use Rattle.laws.specs.Choose.{choose, ◌and◌, ◌or◌, isnt}
 use Rattle.laws.specs.All.{all}
 use Rattle.laws.specs.Rows.{tabulate}

@@ -1,9 +1,8 @@
 -- A semaphore's record in code, and the slot of the rules that it stands for.
-use Rattle.std.specs.Prelude.{◌≡◌, Bool, false, List, [], ◌∷◌, ℕ, pred, ◌+◌, ◌≤◌, ◌<◌, leb, eqb, length, get_or, take}
+use Rattle.std.specs.Prelude.{◌≡◌, Bool, false, List, [], ◌∷◌, ℕ, pred, ◌≤◌, ◌<◌, length, get_or, take}
 use Rattle.laws.specs.Choose.{choose}
 use Rattle.laws.specs.Rows.{fit}
 use Rattle.rules.specs.Machine.{Slot}
-use Rattle.rules.specs.Numbers.{successful, unsatisfied}
 use Rattle.rules.specs.Semaphore as rules
 use Rattle.semaphore.specs.declared.Semaphore.{Semaphore}
 use Rattle.semaphore.specs.declared.Kept.{Kept}

@@ -1,5 +1,4 @@
 -- Tables that a layout can hold: shown row by row, of bytes, and what it says of the bytes.
-use mathlib.Core.List.{List}
 use Prim.Native.Nat.{ℕ, zero, suc, ◌≤◌, ◌<◌}
 use native.Mathlib.Omega.{arith}
 use lib.ListN.{length, get_or}

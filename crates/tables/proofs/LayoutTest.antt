@@ -3,14 +3,12 @@ use mathlib.Core.Path.{◌≡◌, refl, sym, ap, subst, ◌∙◌}
 use mathlib.Core.Bool.{true}
 use mathlib.Core.Logic.{◌↔◌}
 use mathlib.Core.List.{List}
-use Prim.Native.Nat.{ℕ, ◌+◌, ◌-◌, ◌*◌, ◌≤◌, ◌<◌}
+use Prim.Native.Nat.{ℕ, ◌+◌, ◌-◌, ◌≤◌, ◌<◌}
 use native.Mathlib.Omega.{arith}
 use native.Mathlib.Decide.{dec_lt}
-use lib.ListN.{length, get_or, take, replicate, length-take, length-replicate, get_or-eq_default}
+use lib.ListN.{length, get_or, replicate, length-take, length-replicate, get_or-eq_default}
 use borrow.Author.Tests.{eq-eqb, eqb-true, le-leb, leb-true}
-use Rattle.laws.specs.Choose.{◌and◌}
 use Rattle.laws.proofs.Choose.{and_both, both_and}
-use Rattle.laws.specs.All.{all}
 use Rattle.laws.proofs.All.{all_at, all_of}
 use Rattle.laws.specs.Rows.{fit, tabulate}
 use Rattle.laws.proofs.Fit.{length_tabulate, get_d_tabulate, get_d_tabulate_else, tabulate_is, get_d_same, get_d_fit, fit_take}

@@ -1,11 +1,10 @@
 -- The words of a layout: how many, which stands where, and one task's, one slot's or the sequence's words replaced.
 use mathlib.Core.Path.{◌≡◌, refl, sym, ap, subst, ◌∙◌}
 use mathlib.Core.List.{List, [], ◌∷◌, ◌++◌, map, append_assoc}
-use Prim.Native.Nat.{ℕ, zero, suc, ◌+◌, ◌-◌, ◌*◌, ◌/◌, ◌%◌, ◌≤◌, ◌<◌}
-use native.Mathlib.Nat.{not-suc-le-zero}
+use Prim.Native.Nat.{ℕ, zero, suc, ◌+◌, ◌-◌, ◌/◌, ◌%◌, ◌≤◌, ◌<◌}
 use native.Mathlib.Decide.{dec_lt}
 use native.Mathlib.Omega.{arith}
-use lib.ListN.{length, get_or, set, replicate, length-append, length-map}
+use lib.ListN.{length, get_or, set, length-append, length-map}
 use lib.Seq.{sets, get_or-append-add}
 use Rattle.laws.specs.Rows.{fit, rows}
 use Rattle.laws.proofs.Fit.{length_fit, get_d_fit, fit_none, get_d_same, map_set, get_d_map, sets_right}

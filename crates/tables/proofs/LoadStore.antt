@@ -12,7 +12,7 @@ use Rattle.laws.specs.Choose.{◌and◌}
 use Rattle.laws.proofs.Choose.{if_yes, if_no}
 use Rattle.laws.specs.All.{all}
 use Rattle.laws.proofs.Fit.{sets_join}
-use Rattle.words.specs.Words.{bytes_of_word, bytes_of, word_at, blank}
+use Rattle.words.specs.Words.{bytes_of, word_at, blank}
 use Rattle.rules.specs.declared.Task.{Task}
 use Rattle.semaphore.specs.declared.Semaphore.{Semaphore}
 use Rattle.tables.specs.declared.Head.{Head}

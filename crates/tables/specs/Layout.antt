@@ -1,6 +1,6 @@
 -- The tables as words, and back. docs/LAYOUT.md has the same numbers: word 0 is N and word 1 is S; task i (from 0) has the 4 words from 2 + 4 i on,
 -- slot i the 41 words from 130 + 41 i on, the last 32 of them its queue; word 2754 is the length of the sequence of ready tasks, and its 32 places follow.
-use Rattle.std.specs.Prelude.{◌≡◌, Bool, List, [], ◌∷◌, ◌++◌, map, ℕ, ◌+◌, ◌*◌, leb, eqb, length, get_or, take}
+use Rattle.std.specs.Prelude.{Bool, List, ◌∷◌, ◌++◌, map, ℕ, ◌+◌, ◌*◌, leb, eqb, length, get_or, take}
 use Rattle.laws.specs.Choose.{◌and◌}
 use Rattle.laws.specs.All.{all}
 use Rattle.laws.specs.Rows.{fit, tabulate, rows}

@@ -24,17 +24,19 @@ loop-i-preserved c =
     let read = c.load_task-v.ensures in
     let passed = c.loop-i.invariant in
     elim c.if-is_timed.branch [
-      then-is_timed w ↦ rw w.m-is (
-      omega arith,
-      omega (arith, w.store_task.auto),
-      search rules,
-      ticked_more m₀ b₀ c.loop-i.m i _ passed.2 few inside read passed.3 _ _ w.ticked-later.ensures w.store_task.ensures,
-    ) | else-is_timed w ↦ rw w.m-is (
-      omega arith,
-      passed.1,
-      passed.2,
-      ticked_same m₀ b₀ c.loop-i.m i _ passed.2 few inside read passed.3 (sym c.is_timed.ensures ∙ w.if-is_timed.false),
-    )]
+      | then-is_timed w ↦ rw w.m-is (
+        omega arith,
+        omega (arith, w.store_task.auto),
+        search rules,
+        ticked_more m₀ b₀ c.loop-i.m i _ passed.2 few inside read passed.3 _ _ w.ticked-later.ensures w.store_task.ensures,
+      )
+      | else-is_timed w ↦ rw w.m-is (
+        omega arith,
+        passed.1,
+        passed.2,
+        ticked_same m₀ b₀ c.loop-i.m i _ passed.2 few inside read passed.3 (sym c.is_timed.ensures ∙ w.if-is_timed.false),
+      )
+    ]
 
 pub returns : goal.returns
 returns c =

@@ -2,18 +2,17 @@
 use mathlib.Core.Path.{◌≡◌, refl}
 use mathlib.Core.Bool.{true}
 use mathlib.Core.List.{List, [], ◌∷◌}
-use mathlib.Core.Logic.{⊎_elim}
 use Prim.Native.Nat.{ℕ, ◌≤◌, ◌<◌}
 use native.Mathlib.Omega.{arith}
 use lib.Dec.{eqb}
 use lib.ListN.{length, length-map}
-use borrow.Author.Tests.{eqb-true, leb-true, le-leb}
-use Rattle.laws.specs.Choose.{choose, ◌and◌, ◌or◌}
-use Rattle.laws.proofs.Choose.{choose_cases, and_both, or_either, if_yes}
+use borrow.Author.Tests.{eqb-true, le-leb}
+use Rattle.laws.specs.Choose.{choose, ◌or◌}
+use Rattle.laws.proofs.Choose.{choose_cases, if_yes}
 use Rattle.rules.specs.declared.Call.{Call}
 use Rattle.rules.specs.declared.Call.TheVariants.{Start, Create, Ident, Delete, Obtain, Release, Flush, Tick}
 use Rattle.rules.specs.declared.Wait.{Wait}
-use Rattle.rules.specs.Numbers.{max_tasks, max_slots, max_generation, within}
+use Rattle.rules.specs.Numbers.{max_slots, max_generation}
 use Rattle.rules.specs.Machine.{Slot, Tables, slot_of, put_slot, slot_named}
 use Rattle.rules.specs.Agreement.{agrees}
 use Rattle.rules.specs.Semaphore.{Taken, Given, take_step, give_step, pass_step, flush_step}

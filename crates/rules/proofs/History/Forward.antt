@@ -5,7 +5,7 @@ use mathlib.Core.Bool.{true, false≢true}
 use mathlib.Core.List.{List, [], ◌∷◌, map}
 use Prim.Native.Nat.{ℕ, pred, ◌≤◌, ◌<◌}
 use native.Mathlib.Omega.{arith}
-use lib.ListN.{length, get_or, set, length-set, get_or-map}
+use lib.ListN.{length, get_or, length-set, get_or-map}
 use Rattle.laws.proofs.Fit.{set_cases}
 use Rattle.rules.specs.Numbers.{max_generation}
 use Rattle.rules.specs.Machine.{Slot, Tables, free_slot, with_slots, slot_of, put_slot, is_live}

@@ -10,7 +10,6 @@ use lib.ListN.{length, get_or}
 use borrow.Author.Tests.{leb-true, eqb-true}
 use Rattle.laws.specs.Choose.{choose, ◌and◌, when, isnt}
 use Rattle.laws.proofs.Choose.{and_both, both_and, or_either, when_then, then_when, isnt_false, false_isnt}
-use Rattle.laws.specs.All.{all}
 use Rattle.laws.proofs.All.{all_at, all_of}
 use Rattle.rules.specs.declared.Task.{Task}
 use Rattle.rules.specs.Numbers.{max_tasks, max_slots, allowed, is_binary}

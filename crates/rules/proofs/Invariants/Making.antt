@@ -7,7 +7,7 @@ use native.Mathlib.Omega.{arith}
 use lib.Dec.{leb, ltb, eqb}
 use lib.ListN.{length, get_or, replicate, length-map, length-replicate, get_or-replicate, get_or-map}
 use borrow.Author.Tests.{eqb-false, leb-true, ltb-true}
-use Rattle.laws.specs.Choose.{choose, ◌and◌, ◌or◌, isnt, bit}
+use Rattle.laws.specs.Choose.{choose, ◌and◌, isnt, bit}
 use Rattle.laws.proofs.Choose.{never, and_both, both_and, or_second, isnt_false, false_isnt, same_test, choose_cases}
 use Rattle.laws.specs.All.{all}
 use Rattle.laws.proofs.All.{all_at}

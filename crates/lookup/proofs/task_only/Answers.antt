@@ -1,0 +1,15 @@
+-- `lookup::task_only` meets its contract.
+use mathlib.Core.Path.{sym, ◌∙◌}
+use borrow.Author.Tests.{eq-eqb, ne_eqb}
+use Rattle.laws.proofs.Choose.{if_yes}
+use Rattle.tables.specs.Layout.{model_of}
+use Rattle.lookup.proofs.CallerAndSlot.{task_only_task}
+use Rattle.lookup.proofs.task_only.Goals as goal
+
+pub returns-then-caller-eq0 : goal.returns-then-caller-eq0
+returns-then-caller-eq0 c = sym (if_yes _ _ (eq-eqb _ _ c.if-caller-eq0.true))
+
+pub returns : goal.returns
+returns c =
+    let first = c.args in
+    c.caller_refusal.ensures ∙ task_only_task (model_of first.m.now) first.caller (ne_eqb _ _ c.if-caller-eq0.false)

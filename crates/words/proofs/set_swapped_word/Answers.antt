@@ -1,0 +1,17 @@
+-- `words::set_swapped_word` meets its contract: four stores are one of four bytes.
+use native.Mathlib.Omega.{arith}
+use native.Mathlib.Numerals.{towards_suc}
+use lib.ListN.{length-set}
+use Rattle.words.proofs.set_swapped_word.Goals as goal
+
+pub bounds-m-at-2 : goal.bounds-m-at-2
+bounds-m-at-2 c = simp length-set (omega arith)
+
+pub bounds-m-at-3 : goal.bounds-m-at-3
+bounds-m-at-3 c = simp length-set (omega arith)
+
+pub bounds-m-at-4 : goal.bounds-m-at-4
+bounds-m-at-4 c = simp length-set (omega arith)
+
+pub returns : goal.returns
+returns c = simp towards_suc
