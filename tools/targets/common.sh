@@ -3,8 +3,8 @@ set -eu
 root=$(cd "$(dirname "${BASH_SOURCE[0]}")/../.." && pwd)
 here=$root/tools/targets
 made=$root/build/targets
-kit=$(dirname "$(dirname "$(rt doc)")")
-own=$kit/on/$(uname -m)
+kit=$(dirname "$(rt doc)")
+own=$kit
 clang=$own/toolchain/bin/clang
 mkdir -p "$made"
 export PYTHONDONTWRITEBYTECODE=1
