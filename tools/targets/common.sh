@@ -4,8 +4,7 @@ root=$(cd "$(dirname "${BASH_SOURCE[0]}")/../.." && pwd)
 here=$root/tools/targets
 made=$root/build/targets
 kit=$(dirname "$(rt doc)")
-own=$kit
-clang=$own/toolchain/bin/clang
+clang=$kit/toolchain/bin/clang
 mkdir -p "$made"
 export PYTHONDONTWRITEBYTECODE=1
 read -ra crates <<<"$(python3 "$here/exported.py")"

@@ -34,7 +34,7 @@ EDITS = {
     "a length of 32 bits": first(r"(define \{ i64, i32 \} @\w+\(ptr noundef %a0, )i64", r"\1i32"),
     "an answer that comes back in another way": first(r"define \{ i64, i32 \} @", "define [3 x i32] @"),
     "an exported function that the crate does not have": first(r"(?s)define (\{ i64, i32 \} @\w+)(\(.*?\n\}\n)", r"define \1\2define \1_too\2"),
-    "another attribute of functions": first(r'"target-cpu"="x86-64-v2"', '"target-cpu"="x86-64-v2" "target-features"="+avx"'),
+    "another attribute of functions": first(r'"target-cpu"="x86-64"', '"target-cpu"="x86-64" "target-features"="+avx"'),
     "another attribute of a parameter": first(r"ptr noundef %a0", "ptr noalias noundef %a0"),
     "a volatile load": first(r"= load i32", "= load volatile i32"),
     "a number of 128 bits": first(r"alloca i64", "alloca i128"),

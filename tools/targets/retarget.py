@@ -42,7 +42,7 @@ BODY = (
     rf"  ret (?:void|{INT} {VALUE})", r"  unreachable",
 )
 # The lines outside of functions.
-X86 = 'attributes #0 = { nounwind "probe-stack"="inline-asm" "stack-probe-size"="3072" "target-cpu"="x86-64-v2" }'
+X86 = 'attributes #0 = { nounwind "probe-stack"="inline-asm" "stack-probe-size"="3072" "target-cpu"="x86-64" }'
 OUTER = (
     r"", r"; ModuleID = .*", r'@static\.\d+ = private unnamed_addr constant \[\d+ x i8\] (?:c"[^"]*"|zeroinitializer), align [1248]', r"; Function Attrs: .*", r'source_filename = "rattle"', re.escape(X86),
     r'target datalayout = "e-m:e-p270:32:32-p271:32:32-p272:64:64-i64:64-i128:128-f80:128-n8:16:32:64-S128"',
