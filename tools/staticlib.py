@@ -41,7 +41,7 @@ def main():
     verdicts = [line for line in text.splitlines() if line.startswith("logic=proved")]
     if status or not verdicts or any("foreign=" in line for line in verdicts):
         sys.exit(f"{text}{name} is not proved and compiled")
-    print(f"{name} proved, and compiled for C", file=sys.stderr)
+    print(f"{name} compiled for C", file=sys.stderr)
 
 
 if __name__ == "__main__":

@@ -8,12 +8,13 @@ ROOT = Path(__file__).resolve().parents[2]
 # Each has objects of its own in the library, so that a firmware links those whose functions it calls.
 CRATES = ("capi", "capi_state", "capi_itron")
 WIDTHS = {"u8": 1, "u16": 2, "u32": 4, "u64": 8, "i32": 4}
-IR = {"u8": "i8", "u16": "i16", "u32": "i32", "u64": "i64", "i32": "i32"}
 FUNCTION = re.compile(r'pub\s+extern\s+"C"\s+fn\s+(\w+)\s*\((.*?)\)\s*(?:->\s*(\w+)\s*)?(?:requires|ensures|\{)', re.S)
-SLICE = re.compile(r"&(mut )?\[(?:\w+::)?(\w+)\]")
+SLICE = re.compile(r"&(mut )?\[(\w+)\]")
 # A number that the function writes for its caller, by a pointer of its own.
-PLACE = re.compile(r"&mut (\w+)")
+PLACE = "&mut u32"
 NUMBERS = {"u32": "i32", "u64": "i64", "i32": "i32"}
+# A struct of two numbers of 32 bits comes back from the proved function as both at once.
+PAIR = r"\{ i32, i32 \}"
 # What may be lent as a slice.
 ELEMENTS = ("u8", "u16", "u32", "u64")
 
@@ -42,16 +43,44 @@ def fields(name):
 
 class Parameter:
     def __init__(self, name, kind):
-        self.name, self.kind, self.slice, self.place = name, kind, SLICE.fullmatch(kind), PLACE.fullmatch(kind)
-        if not self.slice and not self.place and kind not in (*NUMBERS, "usize"):
+        self.name, self.kind, self.slice = name, kind, SLICE.fullmatch(kind)
+        if self.slice and self.slice[2] not in ELEMENTS or not self.slice and kind not in (*NUMBERS, "usize", PLACE):
             raise Unknown(f"parameter {name} has type {kind}, which the shim does not know")
-        self.lent = (self.slice[2] if self.slice else self.place[1]) if self.slice or self.place else None
-        if self.place and self.lent in WIDTHS and self.lent != "u32" or self.slice and self.lent in WIDTHS and self.lent not in ELEMENTS:
-            raise Unknown(f"parameter {name} has type {kind}, which the shim does not know")
-        # A number's width, or the widest of a #[repr(C)] struct's fields, which are numbers.
-        self.align = WIDTHS[self.lent] if self.lent in WIDTHS else max(WIDTHS[k] for _, k, _ in fields(self.lent)[0]) if self.lent else 0
         # How the proved function takes it: a slice as a pointer and 64 bits of length.
-        self.inner = ["ptr", "i64"] if self.slice else ["ptr"] if self.place else [NUMBERS.get(kind, "i64")]
+        self.inner = ["ptr", "i64"] if self.slice else ["ptr"] if kind == PLACE else [NUMBERS.get(kind, "i64")]
+        # What its pointer is aligned to, as C aligns what it lends.
+        self.align = WIDTHS[self.slice[2] if self.slice else "u32"] if self.inner[0] == "ptr" else None
+
+
+class Lines:
+    """The lines of an exported x86-64 function, as patterns, with the registers that it counts."""
+
+    def __init__(self):
+        self.lines, self.registers = [], 0
+
+    def new(self):
+        self.registers += 1
+        return f"%r{self.registers - 1}"
+
+    def add(self, *lines):
+        self.lines += lines
+
+    def slice(self, pointer, length):
+        """Moves a null pointer to 4096, since a slice's is never null, puts pointer and length together and takes them apart again."""
+        place, null, wide, step, moved, end, first, other, count = (self.new() for _ in range(9))
+        self.add(rf"{place} = alloca \[16 x i8\], align 8", f"{null} = icmp eq ptr {pointer}, null", f"{wide} = zext i1 {null} to i64",
+                 f"{step} = mul i64 {wide}, 4096", f"{moved} = getelementptr i8, ptr {pointer}, i64 {step}",
+                 f"store ptr {moved}, ptr {place}, align 8", f"{end} = getelementptr i8, ptr {place}, i64 8",
+                 f"store i64 {length}, ptr {end}, align 8", f"{first} = load ptr, ptr {place}, align 1",
+                 f"{other} = getelementptr i8, ptr {place}, i64 8", f"{count} = load i64, ptr {other}, align 1")
+        return [f"ptr {first}", f"i64 {count}"]
+
+    def pair(self, call, place):
+        """Two numbers that come back together, written to the place of the answer."""
+        both, first, second, behind = (self.new() for _ in range(4))
+        self.add(rf"{both} = call {PAIR} {call}", f"{first} = extractvalue {PAIR} {both}, 0", f"{second} = extractvalue {PAIR} {both}, 1",
+                 f"store i32 {first}, ptr {place}, align 1", f"{behind} = getelementptr i8, ptr {place}, i64 4",
+                 f"store i32 {second}, ptr {behind}, align 1")
 
 
 class Function:
@@ -60,18 +89,22 @@ class Function:
     def __init__(self, crate, name, parameters, result):
         self.crate, self.name, self.parameters, self.number, self.answer = crate, name, parameters, NUMBERS.get(result), None
         self.kind = result if self.number else None
-        self.scalars = []
         if result and not self.number:
             self.answer = result
             self.fields, self.size = fields(result)
-            # A struct of one number comes back as it, of two as a pair; any other is written through a pointer.
-            self.scalars = [IR[kind] for _, kind, _ in self.fields] if len(self.fields) <= 2 else []
-        self.by_pointer = bool(self.answer) and not self.scalars
+            if len(self.fields) < 2 or len(self.fields) == 2 and not self.is_pair():
+                raise Unknown(f"{result} comes back in a way that the shim does not know")
+
+    def is_pair(self):
+        return bool(self.answer) and [WIDTHS[kind] for _, kind, _ in self.fields] == [4, 4]
+
+    def taken(self):
+        """What the proved function takes, as LLVM's types: first the place of a struct that does not come back as a pair."""
+        return ["ptr"] * (bool(self.answer) and not self.is_pair()) + [word for each in self.parameters for word in each.inner]
 
     def inner_line(self):
-        """The first line of the proved function in the module: a struct is given back by pointer, slices come by pointer."""
-        words = ["ptr"] * self.by_pointer + [word for each in self.parameters for word in each.inner]
-        listed = ", ".join(f"{word} noundef %a{at}" for at, word in enumerate(words))
+        """The first line of the proved function in the module."""
+        listed = ", ".join(f"{word} noundef %a{at}" for at, word in enumerate(self.taken()))
         return f'define internal {self.given()} {self.inner_name()}({listed}) #0 {{'
 
     def inner_name(self):
@@ -84,76 +117,44 @@ class Function:
 
     def given(self):
         """What the proved function gives back, as its definition writes it."""
-        return f"noundef {self.number}" if self.number else f"noundef {self.together()}" if self.scalars else "void"
-
-    def together(self):
-        """A struct of one number or two, as LLVM writes what comes back."""
-        return self.scalars[0] if len(self.scalars) == 1 else "{ " + ", ".join(self.scalars) + " }"
+        return f"noundef {self.number}" if self.number else "noundef { i32, i32 }" if self.is_pair() else "void"
 
     def wrapper(self):
         """A pattern for the exported x86-64 function. The shim does what this form does, and takes its place only if it matches."""
-        given, lines, taken, passed, at = "void", [], [], [], 0
-
-        def new():
-            nonlocal at
-            at += 1
-            return f"%r{at - 1}"
-
-        place = None
+        body, given, taken, passed, place = Lines(), "void", [], [], None
         if self.answer and self.size <= 16:  # comes back in registers, from a place of the function's own
-            given, place = r"(?P<given>i\d+|\{ i\d+, i\d+ \})", new()
-            lines.append(rf"{place} = alloca \[\d+ x i8\], align [1248]")
-            passed += [f"ptr {place}"] * self.by_pointer
+            given, place = r"(?P<given>i\d+|\{ i\d+, i\d+ \})", body.new()
+            body.add(rf"{place} = alloca \[\d+ x i8\], align [1248]")
+            passed += [f"ptr {place}"] * (not self.is_pair())
         elif self.answer:  # written through the caller's pointer
             given, taken, passed = "noundef ptr", ["ptr noundef %a0"], ["ptr %a0"]
         for each in self.parameters:
-            n = len(taken)
-            taken += [f"{word} noundef %a{n + more}" for more, word in enumerate(each.inner)]
-            if not each.slice:
-                passed.append(f"{each.inner[0]} %a{n}")
-                continue
-            # A null pointer is moved to 4096, since a slice's is never null; the rest puts the two together and takes them apart.
-            s, null, wide, add, to, end, first, other, length = (new() for _ in range(9))
-            lines += [rf"{s} = alloca \[16 x i8\], align 8", f"{null} = icmp eq ptr %a{n}, null", f"{wide} = zext i1 {null} to i64",
-                      f"{add} = mul i64 {wide}, 4096", f"{to} = getelementptr i8, ptr %a{n}, i64 {add}", f"store ptr {to}, ptr {s}, align 8",
-                      f"{end} = getelementptr i8, ptr {s}, i64 8", f"store i64 %a{n + 1}, ptr {end}, align 8", f"{first} = load ptr, ptr {s}, align 1",
-                      f"{other} = getelementptr i8, ptr {s}, i64 8", f"{length} = load i64, ptr {other}, align 1"]
-            passed += [f"ptr {first}", f"i64 {length}"]
+            arguments = [f"%a{len(taken) + more}" for more in range(len(each.inner))]
+            taken += [f"{word} noundef {argument}" for word, argument in zip(each.inner, arguments)]
+            passed += body.slice(*arguments) if each.slice else [f"{each.inner[0]} {arguments[0]}"]
         call = rf'{self.inner_name()}\({", ".join(passed)}\)'
         if self.number:
-            given, number = f"noundef {self.number}", new()
-            lines += [f"{number} = call {self.number} {call}", f"ret {self.number} {number}"]
-        elif self.scalars:
-            whole, kind = new(), re.escape(self.together())
-            lines.append(f"{whole} = call {kind} {call}")
-            parts = [whole] if len(self.scalars) == 1 else [new(), new()]
-            lines += [f"{part} = extractvalue {kind} {whole}, {n}" for n, part in enumerate(parts) if part != whole]
-            lines.append(f"store {self.scalars[0]} {parts[0]}, ptr {place}, align 1")
-            if len(parts) == 2:
-                second = new()
-                lines += [f"{second} = getelementptr i8, ptr {place}, i64 {self.fields[1][2]}", f"store {self.scalars[1]} {parts[1]}, ptr {second}, align 1"]
-            back = new()
-            lines += [f"{back} = load (?P=given), ptr {place}, align [1248]", f"ret (?P=given) {back}"]
-        elif place:
-            back = new()
-            lines += [f"call void {call}", f"{back} = load (?P=given), ptr {place}, align [1248]", f"ret (?P=given) {back}"]
+            given, number = f"noundef {self.number}", body.new()
+            body.add(f"{number} = call {self.number} {call}", f"ret {self.number} {number}")
         else:
-            lines += [f"call void {call}", "ret ptr %a0" if self.answer else "ret void"]
+            body.pair(call, place) if self.is_pair() else body.add(f"call void {call}")
+            if place:
+                back = body.new()
+                body.add(rf"{back} = load (?P=given), ptr {place}, align [1248]", rf"ret (?P=given) {back}")
+            else:
+                body.add("ret ptr %a0" if self.answer else "ret void")
         head = rf"define {given} @{self.name}\({', '.join(taken)}\) #0 \{{\nstart:\n"
-        return re.compile(head + "".join(rf"  {line}\n" for line in lines) + r"\}\n")
+        return re.compile(head + "".join(rf"  {line}\n" for line in body.lines) + r"\}\n")
 
     def bridge(self):
-        """For a pair that comes back: a function of the module that writes it through a pointer, as C can call it on every processor."""
-        if len(self.scalars) != 2:
-            return ""
-        words = [word for each in self.parameters for word in each.inner]
-        taken = ", ".join(["ptr noundef %a0"] + [f"{word} noundef %a{n + 1}" for n, word in enumerate(words)])
-        passed = ", ".join(f"{word} %a{n + 1}" for n, word in enumerate(words))
-        kind = self.together()
-        return (f"\ndefine hidden void @{self.raw_name()}({taken}) #0 {{\nstart:\n  %r0 = call {kind} {self.inner_name()}({passed})\n"
-                f"  %r1 = extractvalue {kind} %r0, 0\n  store {self.scalars[0]} %r1, ptr %a0, align {WIDTHS[self.fields[0][1]]}\n"
-                f"  %r2 = getelementptr i8, ptr %a0, i64 {self.fields[1][2]}\n  %r3 = extractvalue {kind} %r0, 1\n"
-                f"  store {self.scalars[1]} %r3, ptr %r2, align {WIDTHS[self.fields[1][1]]}\n  ret void\n}}\n")
+        """For a pair: a function of the module that writes it through a pointer, as C can call it on every processor."""
+        words = self.taken()
+        taken = "".join(f", {word} noundef %a{at + 1}" for at, word in enumerate(words))
+        passed = ", ".join(f"{word} %a{at + 1}" for at, word in enumerate(words))
+        return (f"\ndefine hidden void @{self.raw_name()}(ptr noundef %a0{taken}) #0 {{\nstart:\n"
+                f"  %r0 = call {{ i32, i32 }} {self.inner_name()}({passed})\n  %r1 = extractvalue {{ i32, i32 }} %r0, 0\n"
+                "  store i32 %r1, ptr %a0, align 4\n  %r2 = getelementptr i8, ptr %a0, i64 4\n"
+                "  %r3 = extractvalue { i32, i32 } %r0, 1\n  store i32 %r3, ptr %r2, align 4\n  ret void\n}\n")
 
 
 def functions(crate, source):

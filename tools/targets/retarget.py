@@ -13,29 +13,30 @@ R = r"%[ra]\d+"
 INT = r"i(?:1|8|16|32|64)"
 VALUE = rf"(?:{R}|-?\d+|true|false)"
 LABEL = r"label %[a-z]+(?:\.\d+)?"
-NAME = r'@"[^"\\]+"'
-ARGUMENT = rf"(?:ptr (?:{R}|@static\.\d+)|{INT} {VALUE})"
+NAME = r'@"[A-Za-z_][\w:]*"'
+ARGUMENT = rf"(?:ptr {R}|{INT} {VALUE})"
 ALIGN = r"align [1248]"
-# Two numbers that come back together. In memory they lie as in a C struct, at the same offsets on every processor.
-PAIR = rf"\{{ (?:{INT}|ptr), (?:{INT}|ptr) \}}"
-STATIC = r"@static\.\d+"
+# Two numbers that come back together. In memory the second is at 4, since a number of 32 bits is aligned to 4 everywhere.
+PAIR = r"\{ i(?:8|32), i32 \}"
+# The place of an empty array, of which no byte is ever read.
+EMPTY = r"@static\.\d+"
 
 # The lines of a function. No number becomes a pointer and no pointer a number, and copies and fills have a fixed length.
 BODY = (
-    r"", r"start:", r"[a-z]+\.\d+: +; (?:preds = .*|No predecessors!)",
+    r"", r"start:", r"[a-z]+\.\d+: +; preds = .*",
     rf"  {R} = alloca (?:{INT}|ptr|\[\d+ x i8\]), {ALIGN}",
     rf"  {R} = load {INT}, ptr {R}, {ALIGN}(?:, !range !\d+)?(?:, !noundef !\d+)?",
     rf"  {R} = load ptr, ptr {R}, align 8, !noundef !\d+",
     rf"  store {INT} {VALUE}, ptr {R}, {ALIGN}",
-    rf"  store ptr (?:{R}|@static\.\d+), ptr {R}, align 8", rf"  {R} = ptrtoaddr ptr {R} to i64",
+    rf"  store ptr (?:{R}|{EMPTY}), ptr {R}, align 8",
+    rf"  {R} = load {PAIR}, ptr {R}, {ALIGN}", rf"  {R} = extractvalue {PAIR} {R}, [01]", rf"  ret {PAIR} {R}",
     rf"  {R} = getelementptr (?:inbounds nuw )?i8, ptr {R}, i64 (?:{R}|\d+)",
     rf"  {R} = (?:add|sub|mul)(?: nuw)? {INT} {VALUE}, {VALUE}",
     rf"  {R} = (?:udiv|urem|and|or|xor|shl|lshr) {INT} {VALUE}, {VALUE}",
     rf"  {R} = icmp (?:eq|ne|[us](?:lt|le|gt|ge)) {INT} {VALUE}, {VALUE}",
     rf"  {R} = (?:zext|trunc(?: nuw)?) {INT} {VALUE} to {INT}",
-    rf"  {R} = load {PAIR}, ptr {R}, {ALIGN}", rf"  ret {PAIR} {R}", rf"  {R} = extractvalue {PAIR} {R}, [01]", r"  call void @llvm\.trap\(\)",
     rf"  (?:{R} = call (?:{INT}|{PAIR})|call void) {NAME}\((?:{ARGUMENT}(?:, {ARGUMENT})*)?\)",
-    rf"  call void @llvm\.memmove\.p0\.p0\.i64\(ptr {R}, ptr {R}, i64 (?:{R}|\d+), i1 false\)",
+    rf"  call void @llvm\.memmove\.p0\.p0\.i64\(ptr {R}, ptr {R}, i64 \d+, i1 false\)",
     rf"  call void @llvm\.memset\.p0\.i64\(ptr {R}, i8 {VALUE}, i64 \d+, i1 false\)",
     rf"  br {LABEL}", rf"  br i1 {VALUE}, {LABEL}, {LABEL}",
     rf"  switch {INT} {R}, {LABEL} \[", rf"    {INT} -?\d+, {LABEL}", r"  \]",
@@ -44,13 +45,13 @@ BODY = (
 # The lines outside of functions.
 X86 = 'attributes #0 = { nounwind "probe-stack"="inline-asm" "stack-probe-size"="3072" "target-cpu"="x86-64" }'
 OUTER = (
-    r"", r"; ModuleID = .*", r'@static\.\d+ = private unnamed_addr constant \[\d+ x i8\] (?:c"[^"]*"|zeroinitializer), align [1248]', r"; Function Attrs: .*", r'source_filename = "rattle"', re.escape(X86),
+    r"", r"; ModuleID = .*", r"; Function Attrs: .*", r'source_filename = "rattle"', re.escape(X86),
     r'target datalayout = "e-m:e-p270:32:32-p271:32:32-p272:64:64-i64:64-i128:128-f80:128-n8:16:32:64-S128"',
     r'target triple = "x86_64-unknown-linux-gnu"',
-    r"declare void @llvm\.memmove\.p0\.p0\.i64\(ptr writeonly captures\(none\), ptr readonly captures\(none\), i64, i1 immarg\) #\d",
-    r"declare void @llvm\.trap\(\) #\d", r"attributes #\d = \{ cold noreturn nounwind memory\(inaccessiblemem: write\) \}",
-    r"declare void @llvm\.memset\.p0\.i64\(ptr writeonly captures\(none\), i8, i64, i1 immarg\) #\d",
-    r"attributes #\d = \{ nocallback nofree nounwind willreturn memory\(argmem: (?:readwrite|write)\) \}",
+    r"declare void @llvm\.memmove\.p0\.p0\.i64\(ptr writeonly captures\(none\), ptr readonly captures\(none\), i64, i1 immarg\) #[12]",
+    r"declare void @llvm\.memset\.p0\.i64\(ptr writeonly captures\(none\), i8, i64, i1 immarg\) #[12]",
+    r"attributes #[12] = \{ nocallback nofree nounwind willreturn memory\(argmem: (?:readwrite|write)\) \}",
+    rf"{EMPTY} = private unnamed_addr constant \[0 x i8\] zeroinitializer, {ALIGN}",
     r"!llvm\.ident = !\{!0\}", r'!\d+ = !\{!"rattle logic=[0-9a-f]+"\}', r"!\d+ = !\{(?:i8 0, i8 2)?\}",
 )
 PARAMETER = rf"(?:ptr noundef|{INT}(?: noundef)?(?: zeroext)?) %a\d+"
@@ -58,19 +59,7 @@ DEFINITION = rf"define internal (?:noundef (?:zeroext )?{INT}|(?:noundef )?{PAIR
 BODY, OUTER, DEFINITION = (re.compile("|".join(forms)) for forms in (BODY, OUTER, [DEFINITION]))
 
 OFFSET = re.compile(rf"  ({R}) = getelementptr .*ptr ({R}), i64 (\d+)")
-ACCESS = re.compile(rf"  (?:{R} = load|store) ({INT}|ptr|{PAIR})(?: {VALUE})?, ptr ({R}),")
-
-
-def width(kind):
-    return 8 if kind == "ptr" else -(-int(kind[1:]) // 8)
-
-
-def laid_out(kind):
-    """The numbers of a load or store with their offsets."""
-    if not kind.startswith("{"):
-        return [(0, kind)]
-    first, second = kind.strip("{ }").split(", ")
-    return [(0, first), (max(width(first), width(second)), second)]
+ACCESS = re.compile(rf"  (?:{R} = load|store) ({INT}|ptr|{PAIR})(?: (?:{VALUE}|{EMPTY}))?, ptr ({R}),")
 
 
 def check_pointers(function, lines):
@@ -82,8 +71,8 @@ def check_pointers(function, lines):
             places[found[1]] = base, offset + int(found[3])
         elif found := ACCESS.match(line):
             base, offset = places.get(found[2], (found[2], 0))
-            for at, kind in laid_out(found[1]):
-                held |= {(base, offset + at + byte, kind == "ptr") for byte in range(width(kind))}
+            size = 8 if found[1] == "ptr" or found[1][0] == "{" else -(-int(found[1][1:]) // 8)
+            held |= {(base, offset + at, found[1] == "ptr") for at in range(size)}
     for base, at, _ in sorted(held):
         if {(base, at, True), (base, at, False)} <= held:
             raise Unknown(f"byte {at} of {base} belongs to a pointer and to a number, in {function}")
@@ -115,52 +104,23 @@ def without_wrappers(text, functions):
     return text
 
 
-def mangled(name):
-    return re.sub(r"[^\w.]", lambda other: f"_{ord(other[0]):x}", name.replace("::", "."))
-
-
-def narrowed(text):
-    """What has another form where a pointer has 32 bits: an address, the length of a copy, and a pair with a pointer, whose place is that of x86-64."""
-    text = re.sub(rf"^  ({R}) = ptrtoaddr ptr ({R}) to i64$", r"  \1w = ptrtoaddr ptr \2 to i32\n  \1 = zext i32 \1w to i64", text, flags=re.M)
-    count = 0
-
-    def copy(found):
-        nonlocal count
-        count += 1
-        return f"  %n{count} = trunc i64 {found[2]} to i32\n{found[1].replace('.i64(', '.i32(')}i32 %n{count}, i1 false)"
-
-    text = re.sub(rf"^(  call void @llvm\.memmove\.p0\.p0\.i64\(.*)i64 ({R}), i1 false\)$", copy, text, flags=re.M)
-
-    def load(found):
-        to, first, second, place, align = found.groups()
-        if "ptr" not in (first, second):
-            return found[0]
-        at = max(width(first), width(second))
-        return (f"  {to}a = load {first}, ptr {place}, align {min(int(align), width(first))}\n  {to}p = getelementptr i8, ptr {place}, i64 {at}\n"
-                f"  {to}b = load {second}, ptr {to}p, align {min(int(align), width(second))}\n"
-                f"  {to}c = insertvalue {{ {first}, {second} }} poison, {first} {to}a, 0\n  {to} = insertvalue {{ {first}, {second} }} {to}c, {second} {to}b, 1")
-
-    return re.sub(rf"^  ({R}) = load \{{ (\w+), (\w+) \}}, ptr ({R}), align (\d+)$", load, text, flags=re.M)
-
-
 def retargeted(crate, text, layout, triple):
     """The module for the processor with this layout and triple, the proved functions below the exported ones named CRATE_NAME."""
     functions = functions_of(crate)
     text = without_wrappers(text, functions)
     check(text)
     text = aligned(text, functions)
-    text = narrowed(text)
     if not re.search(r'"e-.*\bp:32:32-', layout):
         raise Unknown(f"only processors with 32-bit pointers, low byte first, are known, not {layout}")
     for old, new in ((r"target datalayout = .*", layout), (r"target triple = .*", triple)):
         text = re.sub(old, new, text)
     text = text.replace(X86, "attributes #0 = { nounwind optsize }")
     for function in functions:
-        if bridge := function.bridge():
-            text = text.replace("\ndeclare ", bridge + "\ndeclare ", 1)
+        if function.is_pair():
+            text = text.replace("\ndeclare ", f"{function.bridge()}\ndeclare ", 1)
         else:
             text = text.replace(f"define internal {function.given()} {function.inner_name()}", f"define hidden {function.given()} @{function.raw_name()}")
-    text = re.sub(NAME, lambda name: "@" + mangled(name[0][2:-1]), text)  # as every assembler reads it
+    text = re.sub(NAME, lambda name: "@" + name[0][2:-1].replace("::", "."), text)  # as every assembler reads it
     # Each call, and an obtain's and a tick's step, keeps a frame of its own: taken into the one function that serves them all, they would add up.
     kept = r"calls\.(\w+)\.\2|calls\.tick\.elapse|semaphore\.Semaphore\.take"
     text = re.sub(rf"^(define internal .*@(?:{kept})\(.*\)) #0 \{{$", r"\1 noinline #0 {", text, flags=re.M)

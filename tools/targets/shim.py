@@ -2,13 +2,16 @@
 import re
 import sys
 
-from exported import ROOT, WIDTHS, Unknown, functions_of
+from exported import PLACE, ROOT, Unknown, functions_of
 
 HEAD = """/* Made by tools/targets/shim.py from crates/{crate}: the header's functions over the proved module's. */
 #include "{header}"
 
-/* A lent slice's pointer is never null in the proved module, whose exported functions move a null one in the same way. */
-#define LENT(place) ((const uint8_t *)(place) + ((place) == 0) * 4096)
+/* A slice's pointer is never null in the proved module: a null one, whose length is 0, is moved as the x86-64 functions move it. */
+static inline const void *lent(const void *pointer)
+{
+    return pointer ? pointer : (const void *)4096;
+}
 """
 
 
@@ -24,7 +27,7 @@ def c_name(struct):
 
 
 def c_number(kind):
-    return c_name(kind) if kind[0].isupper() else {"u8": "uint8_t", "u16": "uint16_t", "u32": "uint32_t", "u64": "uint64_t", "i32": "int32_t", "usize": "size_t"}[kind]
+    return {"u8": "uint8_t", "u16": "uint16_t", "u32": "uint32_t", "u64": "uint64_t", "i32": "int32_t", "usize": "size_t"}[kind]
 
 
 def layout(function):
@@ -39,31 +42,28 @@ def layout(function):
 def shim(function):
     given = c_name(function.answer) if function.answer else c_number(function.kind) if function.kind else "void"
     inner, outer, passed = [], [], []
-    one = len(function.scalars) == 1  # comes back as the number that it holds
-    if function.answer and not one:
+    if function.answer:
         inner.append(f"{given} *")
         passed.append("&answer")
     for each in function.parameters:
         if each.slice:
-            kind = c_number(each.lent)
+            kind = c_number(each.slice[2])
             outer += [f"{'' if each.slice[1] else 'const '}{kind} *{each.name}", f"size_t {each.name}_length"]
             inner += ["const void *", "uint64_t"]
-            passed += [f"LENT({each.name})", f"{each.name}_length"]
-        elif each.place:
-            inner.append(f"{c_number(each.lent)} *")
-            outer.append(f"{c_number(each.lent)} *{each.name}")
+            passed += [f"lent({each.name})", f"{each.name}_length"]
+        elif each.kind == PLACE:
+            inner.append("uint32_t *")
+            outer.append(f"uint32_t *{each.name}")
             passed.append(each.name)
         else:
             inner.append("uint64_t" if each.kind == "usize" else c_number(each.kind))
             outer.append(f"{c_number(each.kind)} {each.name}")
             passed.append(each.name)
     raw = function.raw_name()
-    text = f"\n{c_number(function.fields[0][1]) if one else 'void' if function.answer else given} {raw}({', '.join(inner) or 'void'});\n\n"
+    text = f"\n{'void' if function.answer else given} {raw}({', '.join(inner) or 'void'});\n\n"
     text += f"{given} {function.name}({', '.join(outer) or 'void'})\n{{\n"
     call = f"{raw}({', '.join(passed)});\n"
-    if one:
-        text += f"    {given} answer = {{ {raw}({', '.join(passed)}) }};\n    return answer;\n"
-    elif function.answer:
+    if function.answer:
         text += f"    {given} answer;\n    {call}    return answer;\n"
     else:
         text += f"    {'return ' if function.number else ''}{call}"
