@@ -67,7 +67,7 @@ OBJECTS := capi capi_run capi_state capi_itron
 build/libmastclover.a: FORCE
 	@mkdir -p build/members
 	@bash tools/archive $(OBJECTS)
-	@cd build/members && rm -f * && for each in $(OBJECTS); do ar x ../../target/staticlib/lib$$each.a; done && bash ../../tools/align *.o && ar rcsD all.a *.o
+	@cd build/members && rm -f * && for each in $(OBJECTS); do ar x ../archives/lib$$each.a; done && bash ../../tools/align *.o && ar rcsD all.a *.o
 	@cmp -s build/members/all.a $@ || cp build/members/all.a $@
 
 FORCE:
@@ -95,7 +95,7 @@ fuzz: compare
 	compare/target/release/compare_state $(FILES) $(SEED)
 	compare/target/release/compare_itron $(ROUNDS) $(SEED)
 
-# The static library over task records that a caller keeps itself, from the proved crate records, and such a caller.
+# The static library over task records that a caller keeps itself, from the proved crate records_c, and such a caller.
 .PHONY: records
 records: build/libmastrecords.a
 	@cd compare && MAST_LIB_DIR=../build cargo build --release --quiet --features records --bin compare_records
@@ -103,8 +103,8 @@ records: build/libmastrecords.a
 
 build/libmastrecords.a: FORCE
 	@mkdir -p build
-	@bash tools/archive records
-	@cmp -s target/staticlib/librecords.a $@ || cp target/staticlib/librecords.a $@
+	@bash tools/archive records_c
+	@cmp -s build/archives/librecords_c.a $@ || cp build/archives/librecords_c.a $@
 
 bench: compare build/mast-session
 	compare/target/release/bench
@@ -127,4 +127,4 @@ test-targets:
 	@MAST_EMULATORS=required bash tools/targets/test $(CALLS) $(SEED)
 
 clean:
-	rm -rf target build compare/target
+	rm -rf build compare/target crates/*/out

@@ -12,7 +12,7 @@ R = r"%[ra]\d+"
 DEFINED = re.compile(r'define internal .*@"([\w:]+)"\((.*)\) #0 \{')
 ALLOCA = re.compile(rf"  ({R}) = alloca .*, align (\d+)")
 OFFSET = re.compile(rf"  ({R}) = getelementptr (?:inbounds nuw )?i8, ptr ({R}), i64 (\d+)")
-CALL = re.compile(r'  (?:%r\d+ = call \w+|call void) @"([\w:]+)"\((.*)\)')
+CALL = re.compile(r'  (?:%r\d+ = call (?:\w+|\{ \w+, \w+ \})|call void) @"([\w:]+)"\((.*)\)')
 COPY = re.compile(rf"(  call void @llvm\.memmove\.p0\.p0\.i64\()ptr ({R}), ptr ({R}), (.*)")
 MOST = 8
 
@@ -33,8 +33,9 @@ def functions_in(text):
 
 def from_the_shim(function):
     """The alignments that an exported function's pointers have: its answer's, a slice's and a number's place."""
-    answer = [max(WIDTHS[kind] for _, kind, _ in function.fields)] if function.answer else []
-    every = answer + [8 if each.slice else 4 if each.inner == "ptr" else None for each in function.parameters]
+    every = [max(WIDTHS[kind] for _, kind, _ in function.fields)] if function.answer and not function.is_pair() else []
+    for each in function.parameters:
+        every += [each.align] + [None] * (len(each.inner) - 1)
     return {f"%a{at}": align for at, align in enumerate(every) if align}
 
 

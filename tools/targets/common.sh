@@ -3,9 +3,8 @@ set -eu
 root=$(cd "$(dirname "${BASH_SOURCE[0]}")/../.." && pwd)
 here=$root/tools/targets
 made=$root/build/targets
-kit=$(dirname "$(dirname "$(rt doc)")")
-own=$kit/on/$(uname -m)
-clang=$own/toolchain/bin/clang
+kit=$(dirname "$(rt doc)")
+clang=$kit/toolchain/bin/clang
 mkdir -p "$made"
 export PYTHONDONTWRITEBYTECODE=1
 read -ra crates <<<"$(python3 "$here/exported.py")"

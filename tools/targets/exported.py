@@ -13,6 +13,8 @@ SLICE = re.compile(r"&(mut )?\[(\w+)\]")
 # A number that the function writes for its caller, by a pointer of its own.
 PLACE = "&mut u32"
 NUMBERS = {"u32": "i32", "u64": "i64", "i32": "i32"}
+# A struct of two numbers of 32 bits comes back from the proved function as both at once.
+PAIR = r"\{ i32, i32 \}"
 # What may be lent as a slice.
 ELEMENTS = ("u8", "u16", "u32", "u64")
 
@@ -44,7 +46,41 @@ class Parameter:
         self.name, self.kind, self.slice = name, kind, SLICE.fullmatch(kind)
         if self.slice and self.slice[2] not in ELEMENTS or not self.slice and kind not in (*NUMBERS, "usize", PLACE):
             raise Unknown(f"parameter {name} has type {kind}, which the shim does not know")
-        self.inner = "ptr" if self.slice or kind == PLACE else NUMBERS.get(kind, "i64")
+        # How the proved function takes it: a slice as a pointer and 64 bits of length.
+        self.inner = ["ptr", "i64"] if self.slice else ["ptr"] if kind == PLACE else [NUMBERS.get(kind, "i64")]
+        # What its pointer is aligned to, as C aligns what it lends.
+        self.align = WIDTHS[self.slice[2] if self.slice else "u32"] if self.inner[0] == "ptr" else None
+
+
+class Lines:
+    """The lines of an exported x86-64 function, as patterns, with the registers that it counts."""
+
+    def __init__(self):
+        self.lines, self.registers = [], 0
+
+    def new(self):
+        self.registers += 1
+        return f"%r{self.registers - 1}"
+
+    def add(self, *lines):
+        self.lines += lines
+
+    def slice(self, pointer, length):
+        """Moves a null pointer to 4096, since a slice's is never null, puts pointer and length together and takes them apart again."""
+        place, null, wide, step, moved, end, first, other, count = (self.new() for _ in range(9))
+        self.add(rf"{place} = alloca \[16 x i8\], align 8", f"{null} = icmp eq ptr {pointer}, null", f"{wide} = zext i1 {null} to i64",
+                 f"{step} = mul i64 {wide}, 4096", f"{moved} = getelementptr i8, ptr {pointer}, i64 {step}",
+                 f"store ptr {moved}, ptr {place}, align 8", f"{end} = getelementptr i8, ptr {place}, i64 8",
+                 f"store i64 {length}, ptr {end}, align 8", f"{first} = load ptr, ptr {place}, align 1",
+                 f"{other} = getelementptr i8, ptr {place}, i64 8", f"{count} = load i64, ptr {other}, align 1")
+        return [f"ptr {first}", f"i64 {count}"]
+
+    def pair(self, call, place):
+        """Two numbers that come back together, written to the place of the answer."""
+        both, first, second, behind = (self.new() for _ in range(4))
+        self.add(rf"{both} = call {PAIR} {call}", f"{first} = extractvalue {PAIR} {both}, 0", f"{second} = extractvalue {PAIR} {both}, 1",
+                 f"store i32 {first}, ptr {place}, align 1", f"{behind} = getelementptr i8, ptr {place}, i64 4",
+                 f"store i32 {second}, ptr {behind}, align 1")
 
 
 class Function:
@@ -56,11 +92,19 @@ class Function:
         if result and not self.number:
             self.answer = result
             self.fields, self.size = fields(result)
+            if len(self.fields) < 2 or len(self.fields) == 2 and not self.is_pair():
+                raise Unknown(f"{result} comes back in a way that the shim does not know")
+
+    def is_pair(self):
+        return bool(self.answer) and [WIDTHS[kind] for _, kind, _ in self.fields] == [4, 4]
+
+    def taken(self):
+        """What the proved function takes, as LLVM's types: first the place of a struct that does not come back as a pair."""
+        return ["ptr"] * (bool(self.answer) and not self.is_pair()) + [word for each in self.parameters for word in each.inner]
 
     def inner_line(self):
-        """The first line of the proved function in the module: a struct is given back by pointer, slices come by pointer."""
-        words = ["ptr"] * bool(self.answer) + [each.inner for each in self.parameters]
-        listed = ", ".join(f"{word} noundef %a{at}" for at, word in enumerate(words))
+        """The first line of the proved function in the module."""
+        listed = ", ".join(f"{word} noundef %a{at}" for at, word in enumerate(self.taken()))
         return f'define internal {self.given()} {self.inner_name()}({listed}) #0 {{'
 
     def inner_name(self):
@@ -73,38 +117,44 @@ class Function:
 
     def given(self):
         """What the proved function gives back, as its definition writes it."""
-        return f"noundef {self.number}" if self.number else "void"
+        return f"noundef {self.number}" if self.number else "noundef { i32, i32 }" if self.is_pair() else "void"
 
     def wrapper(self):
         """A pattern for the exported x86-64 function. The shim does what this form does, and takes its place only if it matches."""
-        given, lines, taken, passed, register = "void", [], [], [], 0
+        body, given, taken, passed, place = Lines(), "void", [], [], None
         if self.answer and self.size <= 16:  # comes back in registers, from a place of the function's own
-            given, passed, register = r"(?P<given>i\d+|\{ i\d+, i\d+ \})", ["ptr %r0"], 1
-            lines.append(r"%r0 = alloca \[\d+ x i8\], align [1248]")
+            given, place = r"(?P<given>i\d+|\{ i\d+, i\d+ \})", body.new()
+            body.add(rf"{place} = alloca \[\d+ x i8\], align [1248]")
+            passed += [f"ptr {place}"] * (not self.is_pair())
         elif self.answer:  # written through the caller's pointer
             given, taken, passed = "noundef ptr", ["ptr noundef %a0"], ["ptr %a0"]
         for each in self.parameters:
-            at = len(taken)
-            taken.append(f"{each.inner} noundef %a{at}")
-            if not each.slice:
-                passed.append(f"{each.inner} %a{at}")
-                continue
-            taken.append(f"i64 noundef %a{at + 1}")
-            passed.append(f"ptr %r{register}")
-            lines += [rf"%r{register} = alloca \[16 x i8\], align 8", f"store ptr %a{at}, ptr %r{register}, align 8",
-                      f"%r{register + 1} = getelementptr i8, ptr %r{register}, i64 8",
-                      f"store i64 %a{at + 1}, ptr %r{register + 1}, align 8"]
-            register += 2
+            arguments = [f"%a{len(taken) + more}" for more in range(len(each.inner))]
+            taken += [f"{word} noundef {argument}" for word, argument in zip(each.inner, arguments)]
+            passed += body.slice(*arguments) if each.slice else [f"{each.inner[0]} {arguments[0]}"]
         call = rf'{self.inner_name()}\({", ".join(passed)}\)'
         if self.number:
-            given = f"noundef {self.number}"
-            lines += [f"%r{register} = call {self.number} {call}", f"ret {self.number} %r{register}"]
-        elif passed[:1] == ["ptr %r0"] and self.answer:
-            lines += [f"call void {call}", rf"%r{register} = load (?P=given), ptr %r0, align [1248]", rf"ret (?P=given) %r{register}"]
+            given, number = f"noundef {self.number}", body.new()
+            body.add(f"{number} = call {self.number} {call}", f"ret {self.number} {number}")
         else:
-            lines += [f"call void {call}", "ret ptr %a0" if self.answer else "ret void"]
+            body.pair(call, place) if self.is_pair() else body.add(f"call void {call}")
+            if place:
+                back = body.new()
+                body.add(rf"{back} = load (?P=given), ptr {place}, align [1248]", rf"ret (?P=given) {back}")
+            else:
+                body.add("ret ptr %a0" if self.answer else "ret void")
         head = rf"define {given} @{self.name}\({', '.join(taken)}\) #0 \{{\nstart:\n"
-        return re.compile(head + "".join(rf"  {line}\n" for line in lines) + r"\}\n")
+        return re.compile(head + "".join(rf"  {line}\n" for line in body.lines) + r"\}\n")
+
+    def bridge(self):
+        """For a pair: a function of the module that writes it through a pointer, as C can call it on every processor."""
+        words = self.taken()
+        taken = "".join(f", {word} noundef %a{at + 1}" for at, word in enumerate(words))
+        passed = ", ".join(f"{word} %a{at + 1}" for at, word in enumerate(words))
+        return (f"\ndefine hidden void @{self.raw_name()}(ptr noundef %a0{taken}) #0 {{\nstart:\n"
+                f"  %r0 = call {{ i32, i32 }} {self.inner_name()}({passed})\n  %r1 = extractvalue {{ i32, i32 }} %r0, 0\n"
+                "  store i32 %r1, ptr %a0, align 4\n  %r2 = getelementptr i8, ptr %a0, i64 4\n"
+                "  %r3 = extractvalue { i32, i32 } %r0, 1\n  store i32 %r3, ptr %r2, align 4\n  ret void\n}\n")
 
 
 def functions(crate, source):
@@ -116,8 +166,8 @@ def functions(crate, source):
             found.append(Function(crate, name, [Parameter(word.strip(), kind.strip()) for word, kind in words], result))
         except Unknown as unknown:
             raise Unknown(f"{crate}'s {name}: {unknown}") from None
-    if len(found) != source.count("#[no_mangle]"):
-        raise Unknown(f"{crate} marks {source.count('#[no_mangle]')} functions #[no_mangle], and {len(found)} of them could be read")
+    if len(found) != source.count("#[unsafe(no_mangle)]"):
+        raise Unknown(f"{crate} marks {source.count('#[unsafe(no_mangle)]')} functions #[unsafe(no_mangle)], and {len(found)} of them could be read")
     return found
 
 

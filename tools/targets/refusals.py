@@ -28,8 +28,9 @@ EDITS = {
     "half a pointer read as a number": first(r"(  store ptr %\w+, ptr (%r\d+), align 8\n)",
                                              r"\1  %r900 = getelementptr i8, ptr \2, i64 4\n  %r901 = load i32, ptr %r900, align 4\n"),
     "a pointer that is not aligned to 8": first(r"(load ptr, ptr %r\d+, align )8", r"\g<1>4"),
-    "a length at another offset of a slice": first(r"(store ptr %a0, ptr %r1, align 8\n  %r2 = getelementptr i8, ptr %r1, i64 )8", r"\g<1>4"),
+    "a length at another offset of a slice": first(r"(store ptr %r5, ptr %r1, align 8\n  %r6 = getelementptr i8, ptr %r1, i64 )8", r"\g<1>4"),
     "a slice of another size": first(r"(define \{ i64, i32 \} @mast_\w+\(.*\nstart:\n.*\n  %r1 = alloca \[)16", r"\g<1>12"),
+    "a null pointer that is moved to another place": first(r"(define \{ i64, i32 \} @mast_(?:.*\n)+?  %r4 = mul i64 %r3, )4096", r"\g<1>8192"),
     "a length of 32 bits": first(r"(define \{ i64, i32 \} @mast_\w+\(ptr noundef %a0, )i64", r"\1i32"),
     "an answer that comes back in another way": first(r"define \{ i64, i32 \} @mast_", "define [3 x i32] @mast_"),
     "an exported function that the crate does not have": first(r"(?s)define (\{ i64, i32 \} @mast_\w+)(\(.*?\n\}\n)", r"define \1\2define \1_too\2"),
@@ -42,9 +43,24 @@ EDITS = {
     "a call through a pointer": first(r"call void @\"[\w:]+\"\(", "call void %r0("),
     "assembly": first(r"(  ret void)", r'  call void asm "nop", ""()\n\1'),
     "an element that is not a byte": first(r"getelementptr i8", "getelementptr i32"),
+    "an array that is not empty": first(r"(?=\ndefine)", '\n@static.7 = private unnamed_addr constant [2 x i8] zeroinitializer, align 4\n'),
+    "an empty array that is read": first(r"(  ret void)", r"  %r900 = load i32, ptr @static.0, align 4\n\1"),
+    "a pair with a pointer in it": first(r"= load \{ i(?:8|32), i32 \}", "= load { ptr, i32 }"),
+    "a pair with a number of 64 bits": first(r"ret \{ i(?:8|32), i32 \}", "ret { i32, i64 }"),
+    "a pair that is part of a pointer": first(r"(  store ptr %\w+, ptr (%r\d+), align 8\n)", r"\1  %r900 = load { i32, i32 }, ptr \2, align 4\n"),
     "a global": first(r"(?=\ndefine)", "\n@words = private constant [2 x i32] [i32 1, i32 2]\n"),
     "another data layout": first(r"-i64:64", "-i64:32"),
 }
+
+
+def lent(pointer, length, register):
+    """What rattle makes of a slice in an exported function: nine registers."""
+    r = [f"%r{register + more}" for more in range(9)]
+    return (f"  {r[0]} = alloca [16 x i8], align 8\n  {r[1]} = icmp eq ptr {pointer}, null\n  {r[2]} = zext i1 {r[1]} to i64\n"
+            f"  {r[3]} = mul i64 {r[2]}, 4096\n  {r[4]} = getelementptr i8, ptr {pointer}, i64 {r[3]}\n  store ptr {r[4]}, ptr {r[0]}, align 8\n"
+            f"  {r[5]} = getelementptr i8, ptr {r[0]}, i64 8\n  store i64 {length}, ptr {r[5]}, align 8\n  {r[6]} = load ptr, ptr {r[0]}, align 1\n"
+            f"  {r[7]} = getelementptr i8, ptr {r[0]}, i64 8\n  {r[8]} = load i64, ptr {r[7]}, align 1\n")
+
 
 # What rattle makes of exported functions with other types than today's, seen with a crate of such functions.
 WRAPPERS = {
@@ -53,21 +69,20 @@ WRAPPERS = {
     "fn f(a: usize, b: u64) -> u64":
         "define noundef i64 @f(i64 noundef %a0, i64 noundef %a1) #0 {\nstart:\n  %r0 = call i64 @\"capi::f\"(i64 %a0, i64 %a1)\n  ret i64 %r0\n}\n",
     "fn f(t: &mut [u8])":
-        "define void @f(ptr noundef %a0, i64 noundef %a1) #0 {\nstart:\n  %r0 = alloca [16 x i8], align 8\n  store ptr %a0, ptr %r0, align 8\n"
-        "  %r1 = getelementptr i8, ptr %r0, i64 8\n  store i64 %a1, ptr %r1, align 8\n  call void @\"capi::f\"(ptr %r0)\n  ret void\n}\n",
+        "define void @f(ptr noundef %a0, i64 noundef %a1) #0 {\nstart:\n" + lent("%a0", "%a1", 0) +
+        "  call void @\"capi::f\"(ptr %r6, i64 %r8)\n  ret void\n}\n",
     "fn f(a: u32, t: &[u8]) -> Five":
-        "define noundef ptr @f(ptr noundef %a0, i32 noundef %a1, ptr noundef %a2, i64 noundef %a3) #0 {\nstart:\n  %r0 = alloca [16 x i8], align 8\n"
-        "  store ptr %a2, ptr %r0, align 8\n  %r1 = getelementptr i8, ptr %r0, i64 8\n  store i64 %a3, ptr %r1, align 8\n"
-        "  call void @\"capi::f\"(ptr %a0, i32 %a1, ptr %r0)\n  ret ptr %a0\n}\n",
+        "define noundef ptr @f(ptr noundef %a0, i32 noundef %a1, ptr noundef %a2, i64 noundef %a3) #0 {\nstart:\n" + lent("%a2", "%a3", 0) +
+        "  call void @\"capi::f\"(ptr %a0, i32 %a1, ptr %r6, i64 %r8)\n  ret ptr %a0\n}\n",
     "fn f(t: &[u8], a: u32, out: &mut u32) -> Three":
-        "define { i64, i32 } @f(ptr noundef %a0, i64 noundef %a1, i32 noundef %a2, ptr noundef %a3) #0 {\nstart:\n  %r0 = alloca [16 x i8], align 4\n"
-        "  %r1 = alloca [16 x i8], align 8\n  store ptr %a0, ptr %r1, align 8\n  %r2 = getelementptr i8, ptr %r1, i64 8\n"
-        "  store i64 %a1, ptr %r2, align 8\n  call void @\"capi::f\"(ptr %r0, ptr %r1, i32 %a2, ptr %a3)\n"
-        "  %r3 = load { i64, i32 }, ptr %r0, align 4\n  ret { i64, i32 } %r3\n}\n",
+        "define { i64, i32 } @f(ptr noundef %a0, i64 noundef %a1, i32 noundef %a2, ptr noundef %a3) #0 {\nstart:\n  %r0 = alloca [16 x i8], align 4\n" +
+        lent("%a0", "%a1", 1) + "  call void @\"capi::f\"(ptr %r0, ptr %r7, i64 %r9, i32 %a2, ptr %a3)\n"
+        "  %r10 = load { i64, i32 }, ptr %r0, align 4\n  ret { i64, i32 } %r10\n}\n",
     "fn f(a: u32, t: &[u8]) -> Two":
-        "define i64 @f(i32 noundef %a0, ptr noundef %a1, i64 noundef %a2) #0 {\nstart:\n  %r0 = alloca [8 x i8], align 4\n  %r1 = alloca [16 x i8], align 8\n"
-        "  store ptr %a1, ptr %r1, align 8\n  %r2 = getelementptr i8, ptr %r1, i64 8\n  store i64 %a2, ptr %r2, align 8\n"
-        "  call void @\"capi::f\"(ptr %r0, i32 %a0, ptr %r1)\n  %r3 = load i64, ptr %r0, align 4\n  ret i64 %r3\n}\n",
+        "define i64 @f(i32 noundef %a0, ptr noundef %a1, i64 noundef %a2) #0 {\nstart:\n  %r0 = alloca [8 x i8], align 4\n" + lent("%a1", "%a2", 1) +
+        "  %r10 = call { i32, i32 } @\"capi::f\"(i32 %a0, ptr %r7, i64 %r9)\n  %r11 = extractvalue { i32, i32 } %r10, 0\n"
+        "  %r12 = extractvalue { i32, i32 } %r10, 1\n  store i32 %r11, ptr %r0, align 1\n  %r13 = getelementptr i8, ptr %r0, i64 4\n"
+        "  store i32 %r12, ptr %r13, align 1\n  %r14 = load i64, ptr %r0, align 4\n  ret i64 %r14\n}\n",
 }
 TYPES = ["a: bool", "a: &u32", "a: &mut u64", "a: &[usize]", "a: &mut [Task]", "a: [u8; 4]", "a: u8", "a: i8", "a: i64", "a: &mut i32", "a: &[i32]"]
 
@@ -113,9 +128,10 @@ def main():
     passed = [what for what, edit in EDITS.items() if not refused(lambda: retargeted(crate, edit(text), LAYOUT, TRIPLE))]
     if not refused(lambda: retargeted(crate, text, LAYOUT.replace("p:32:32", "p:64:64"), TRIPLE)):
         passed.append("a processor with pointers of 64 bits")
-    source = '#[no_mangle]\npub extern "C" {} {{'
+    source = '#[unsafe(no_mangle)]\npub extern "C" {} {{'
     passed += [kind for kind in TYPES if not refused(lambda: functions("capi", source.format(f"fn f({kind}) -> u32")))]
-    exported.fields = lambda name: ([], {"Two": 8, "Three": 12, "Five": 20}[name])
+    words = lambda count: ([(f"f{at}", "u32", 4 * at) for at in range(count)], 4 * count)
+    exported.fields = lambda name: words({"Two": 2, "Three": 3, "Five": 5}[name])
     unmatched = [head for head, form in WRAPPERS.items() if not functions("capi", source.format(head))[0].wrapper().fullmatch(form)]
     copies = re.findall(r"\(ptr align (\S+ \S+), ptr align (\S+ \S+),", aligned(COPIES, functions("capi", source.format("fn f(a: &mut u32)"))))
     for what in passed:

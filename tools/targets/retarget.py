@@ -16,6 +16,10 @@ LABEL = r"label %[a-z]+(?:\.\d+)?"
 NAME = r'@"[A-Za-z_][\w:]*"'
 ARGUMENT = rf"(?:ptr {R}|{INT} {VALUE})"
 ALIGN = r"align [1248]"
+# Two numbers that come back together. In memory the second is at 4, since a number of 32 bits is aligned to 4 everywhere.
+PAIR = r"\{ i(?:8|32), i32 \}"
+# The place of an empty array, of which no byte is ever read.
+EMPTY = r"@static\.\d+"
 
 # The lines of a function. No number becomes a pointer and no pointer a number, and copies and fills have a fixed length.
 BODY = (
@@ -24,13 +28,14 @@ BODY = (
     rf"  {R} = load {INT}, ptr {R}, {ALIGN}(?:, !range !\d+)?(?:, !noundef !\d+)?",
     rf"  {R} = load ptr, ptr {R}, align 8, !noundef !\d+",
     rf"  store {INT} {VALUE}, ptr {R}, {ALIGN}",
-    rf"  store ptr {R}, ptr {R}, align 8",
+    rf"  store ptr (?:{R}|{EMPTY}), ptr {R}, align 8",
+    rf"  {R} = load {PAIR}, ptr {R}, {ALIGN}", rf"  {R} = extractvalue {PAIR} {R}, [01]", rf"  ret {PAIR} {R}",
     rf"  {R} = getelementptr (?:inbounds nuw )?i8, ptr {R}, i64 (?:{R}|\d+)",
     rf"  {R} = (?:add|sub|mul)(?: nuw)? {INT} {VALUE}, {VALUE}",
     rf"  {R} = (?:udiv|urem|and|or|xor|shl|lshr) {INT} {VALUE}, {VALUE}",
     rf"  {R} = icmp (?:eq|ne|[us](?:lt|le|gt|ge)) {INT} {VALUE}, {VALUE}",
     rf"  {R} = (?:zext|trunc(?: nuw)?) {INT} {VALUE} to {INT}",
-    rf"  (?:{R} = call {INT}|call void) {NAME}\((?:{ARGUMENT}(?:, {ARGUMENT})*)?\)",
+    rf"  (?:{R} = call (?:{INT}|{PAIR})|call void) {NAME}\((?:{ARGUMENT}(?:, {ARGUMENT})*)?\)",
     rf"  call void @llvm\.memmove\.p0\.p0\.i64\(ptr {R}, ptr {R}, i64 \d+, i1 false\)",
     rf"  call void @llvm\.memset\.p0\.i64\(ptr {R}, i8 {VALUE}, i64 \d+, i1 false\)",
     rf"  br {LABEL}", rf"  br i1 {VALUE}, {LABEL}, {LABEL}",
@@ -38,7 +43,7 @@ BODY = (
     rf"  ret (?:void|{INT} {VALUE})", r"  unreachable",
 )
 # The lines outside of functions.
-X86 = 'attributes #0 = { nounwind "probe-stack"="inline-asm" "target-cpu"="x86-64" }'
+X86 = 'attributes #0 = { nounwind "probe-stack"="inline-asm" "stack-probe-size"="3072" "target-cpu"="x86-64" }'
 OUTER = (
     r"", r"; ModuleID = .*", r"; Function Attrs: .*", r'source_filename = "rattle"', re.escape(X86),
     r'target datalayout = "e-m:e-p270:32:32-p271:32:32-p272:64:64-i64:64-i128:128-f80:128-n8:16:32:64-S128"',
@@ -46,14 +51,15 @@ OUTER = (
     r"declare void @llvm\.memmove\.p0\.p0\.i64\(ptr writeonly captures\(none\), ptr readonly captures\(none\), i64, i1 immarg\) #[12]",
     r"declare void @llvm\.memset\.p0\.i64\(ptr writeonly captures\(none\), i8, i64, i1 immarg\) #[12]",
     r"attributes #[12] = \{ nocallback nofree nounwind willreturn memory\(argmem: (?:readwrite|write)\) \}",
+    rf"{EMPTY} = private unnamed_addr constant \[0 x i8\] zeroinitializer, {ALIGN}",
     r"!llvm\.ident = !\{!0\}", r'!\d+ = !\{!"rattle logic=[0-9a-f]+"\}', r"!\d+ = !\{(?:i8 0, i8 2)?\}",
 )
-PARAMETER = rf"(?:ptr noundef|{INT} noundef(?: zeroext)?) %a\d+"
-DEFINITION = rf"define internal (?:noundef (?:zeroext )?{INT}|void) {NAME}\((?:{PARAMETER}(?:, {PARAMETER})*)?\) #0 \{{"
+PARAMETER = rf"(?:ptr noundef|{INT}(?: noundef)?(?: zeroext)?) %a\d+"
+DEFINITION = rf"define internal (?:noundef (?:zeroext )?{INT}|(?:noundef )?{PAIR}|void) {NAME}\((?:{PARAMETER}(?:, {PARAMETER})*)?\) #0 \{{"
 BODY, OUTER, DEFINITION = (re.compile("|".join(forms)) for forms in (BODY, OUTER, [DEFINITION]))
 
 OFFSET = re.compile(rf"  ({R}) = getelementptr .*ptr ({R}), i64 (\d+)")
-ACCESS = re.compile(rf"  (?:{R} = load|store) ({INT}|ptr)(?: {VALUE})?, ptr ({R}),")
+ACCESS = re.compile(rf"  (?:{R} = load|store) ({INT}|ptr|{PAIR})(?: (?:{VALUE}|{EMPTY}))?, ptr ({R}),")
 
 
 def check_pointers(function, lines):
@@ -65,7 +71,7 @@ def check_pointers(function, lines):
             places[found[1]] = base, offset + int(found[3])
         elif found := ACCESS.match(line):
             base, offset = places.get(found[2], (found[2], 0))
-            size = 8 if found[1] == "ptr" else -(-int(found[1][1:]) // 8)
+            size = 8 if found[1] == "ptr" or found[1][0] == "{" else -(-int(found[1][1:]) // 8)
             held |= {(base, offset + at, found[1] == "ptr") for at in range(size)}
     for base, at, _ in sorted(held):
         if {(base, at, True), (base, at, False)} <= held:
@@ -110,7 +116,10 @@ def retargeted(crate, text, layout, triple):
         text = re.sub(old, new, text)
     text = text.replace(X86, "attributes #0 = { nounwind optsize }")
     for function in functions:
-        text = text.replace(f"define internal {function.given()} {function.inner_name()}", f"define hidden {function.given()} @{function.raw_name()}")
+        if function.is_pair():
+            text = text.replace("\ndeclare ", f"{function.bridge()}\ndeclare ", 1)
+        else:
+            text = text.replace(f"define internal {function.given()} {function.inner_name()}", f"define hidden {function.given()} @{function.raw_name()}")
     text = re.sub(NAME, lambda name: "@" + name[0][2:-1].replace("::", "."), text)  # as every assembler reads it
     # Each call, and an obtain's and a tick's step, keeps a frame of its own: taken into the one function that serves them all, they would add up.
     kept = r"calls\.(\w+)\.\2|calls\.tick\.elapse|semaphore\.Semaphore\.take"

@@ -7,12 +7,11 @@ from exported import PLACE, ROOT, Unknown, functions_of
 HEAD = """/* Made by tools/targets/shim.py from crates/{crate}: the header's functions over the proved module's. */
 #include "{header}"
 
-/* A lent slice as the proved module lays it out on every processor. */
-typedef struct {
-    _Alignas(8) const void *first;
-    _Alignas(8) uint64_t length;
-} mast_slice;
-_Static_assert(sizeof(mast_slice) == 16 && offsetof(mast_slice, length) == 8, "a slice is a pointer at 0 and 64 bits of length at 8");
+/* A slice's pointer is never null in the proved module: a null one, whose length is 0, is moved as the x86-64 functions move it. */
+static inline const void *lent(const void *pointer)
+{
+    return pointer ? pointer : (const void *)4096;
+}
 """
 
 
@@ -42,7 +41,7 @@ def layout(function):
 
 def shim(function):
     given = c_name(function.answer) if function.answer else c_number(function.kind) if function.kind else "void"
-    inner, outer, slices, passed = [], [], [], []
+    inner, outer, passed = [], [], []
     if function.answer:
         inner.append(f"{given} *")
         passed.append("&answer")
@@ -50,9 +49,8 @@ def shim(function):
         if each.slice:
             kind = c_number(each.slice[2])
             outer += [f"{'' if each.slice[1] else 'const '}{kind} *{each.name}", f"size_t {each.name}_length"]
-            slices.append(f"    mast_slice {each.name}_slice = {{ {each.name}, {each.name}_length }};\n")
-            inner.append("const mast_slice *")
-            passed.append(f"&{each.name}_slice")
+            inner += ["const void *", "uint64_t"]
+            passed += [f"lent({each.name})", f"{each.name}_length"]
         elif each.kind == PLACE:
             inner.append("uint32_t *")
             outer.append(f"uint32_t *{each.name}")
@@ -63,7 +61,7 @@ def shim(function):
             passed.append(each.name)
     raw = function.raw_name()
     text = f"\n{'void' if function.answer else given} {raw}({', '.join(inner) or 'void'});\n\n"
-    text += f"{given} {function.name}({', '.join(outer) or 'void'})\n{{\n{''.join(slices)}"
+    text += f"{given} {function.name}({', '.join(outer) or 'void'})\n{{\n"
     call = f"{raw}({', '.join(passed)});\n"
     if function.answer:
         text += f"    {given} answer;\n    {call}    return answer;\n"

@@ -30,8 +30,7 @@ fn goes_by(working: &[u32], q: u32, own: u32) -> u32
 
 // The next task of a list of records of any length, as the core chooses it from the sequence of ready tasks by the working priorities that are
 // given beside the records; tasks are counted from 1, and a number that is no record's is passed over.
-#[unsafe(no_mangle)]
-pub extern "C" fn mast_next_task(tasks: &[Task], ready: &[u32], working: &[u32]) -> u32
+pub fn mast_next_task(tasks: &[Task], ready: &[u32], working: &[u32]) -> u32
     ensures { result ≡ next_of tasks.now ready.now working.now }
 {
     let mut best = Best {
@@ -64,8 +63,7 @@ fn readied(v: Task, answer: u32) -> Task
 }
 
 // One task is woken: its record alone changes.
-#[unsafe(no_mangle)]
-pub extern "C" fn mast_wake_task(task: &mut Task, answer: u32)
+pub fn mast_wake_task(task: &mut Task, answer: u32)
     ensures { task.new ≡ readied task.old answer }
 {
     let v = *task;
