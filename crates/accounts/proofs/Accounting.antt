@@ -9,7 +9,6 @@ use lib.Dec.{eqb}
 use lib.ListN.{length}
 use lib.Seq.{get_or-set_same}
 use borrow.Author.Tests.{eqb-false, ne_eqb}
-use Rattle.laws.specs.Choose.{◌and◌}
 use Rattle.laws.proofs.Choose.{tested, never, and_both, both_and, choose_cases}
 use Rattle.rules.specs.declared.Call.{Call}
 use Rattle.rules.specs.declared.Call.TheVariants.{Create}

@@ -10,7 +10,7 @@ use lib.Dec.{leb, eqb}
 use lib.ListN.{length, get_or, set}
 use lib.Seq.{get_or-set_same, get_or-set_other}
 use borrow.Author.Tests.{eqb-true, eqb-false, eq-eqb, ne_eqb, leb-true, leb-false}
-use Rattle.laws.specs.Choose.{choose, bit, ◌and◌, ◌or◌}
+use Rattle.laws.specs.Choose.{choose, bit, ◌and◌}
 use Rattle.laws.proofs.Choose.{tested, never, if_yes, if_no, choose_cases}
 use Rattle.laws.proofs.Fit.{set_cases}
 use Rattle.rules.specs.declared.Task.{Task}

@@ -9,8 +9,8 @@ use lib.Dec.{eqb}
 use lib.ListN.{length, get_or}
 use lib.Seq.{get_or-set_same}
 use borrow.Author.Tests.{eqb-true, eq-eqb}
-use Rattle.laws.specs.Choose.{choose, ◌and◌}
-use Rattle.laws.proofs.Choose.{if_yes, if_no, and_both, both_and, choose_cases}
+use Rattle.laws.specs.Choose.{choose}
+use Rattle.laws.proofs.Choose.{if_yes, and_both, both_and, choose_cases}
 use Rattle.rules.specs.Numbers.{by_priority, is_binary}
 use Rattle.rules.specs.declared.Task.{Task}
 use Rattle.rules.specs.declared.Wait.{Wait}

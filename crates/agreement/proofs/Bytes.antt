@@ -1,16 +1,15 @@
 -- The passes over lent bytes, and the whole test: its parts in the order of the code.
-use mathlib.Core.Path.{◌≡◌, refl, ap, ap₂, sym, subst, ◌∙◌}
+use mathlib.Core.Path.{◌≡◌, refl, ap, ap₂, sym, ◌∙◌}
 use mathlib.Core.List.{List}
 use mathlib.Core.Bool.{Bool, true, false}
 use Prim.Native.Nat.{ℕ, suc, pred, ◌+◌, ◌≤◌, ◌<◌}
 use native.Mathlib.Omega.{arith}
 use native.Mathlib.Numerals.{add-one}
 use lib.ListN.{get_or}
-use borrow.Author.Tests.{leb-true, eqb-true}
 use Rattle.laws.specs.Choose.{◌and◌}
-use Rattle.laws.proofs.Choose.{never, and_both}
+use Rattle.laws.proofs.Choose.{never}
 use Rattle.laws.specs.All.{all}
-use Rattle.laws.proofs.All.{all_at, all_not}
+use Rattle.laws.proofs.All.{all_not}
 use Rattle.words.specs.Words.{word_at}
 use Rattle.words.proofs.WordsInBytes.{Bytes}
 use Rattle.rules.specs.declared.Task.{Task}
@@ -18,8 +17,7 @@ use Rattle.rules.specs.Numbers.{max_number}
 use Rattle.rules.specs.Machine.{Slot, no_task, free_slot, task_of, slot_of}
 use Rattle.rules.specs.Agreement.{counts_fit, sizes_fit}
 use Rattle.rules.proofs.Invariants.Facts.{everywhere}
-use Rattle.tables.specs.Layout.{task_place, slot_place, task_at, record_at, model_of, is_queue_laid, is_laid}
-use Rattle.tables.specs.Sizes.{Bounded}
+use Rattle.tables.specs.Layout.{model_of, is_laid}
 use Rattle.tables.proofs.LayoutRead.{task_below, record_below}
 use Rattle.lookup.proofs.Model.{length_tasks, length_slots, task_read, slot_read}
 use Rattle.agreement.specs.Tests.{slot_agrees, task_agrees, seen_with, seen_below, SlotsTested, slots_agree, seen_all, tasks_agree}

@@ -7,8 +7,8 @@ use Prim.Native.Nat.{ℕ, ◌≤◌}
 use native.Mathlib.Omega.{arith}
 use lib.Dec.{leb, eqb}
 use borrow.Author.Tests.{leb-true, eqb-true, eq-eqb, le-leb}
-use Rattle.laws.specs.Choose.{choose, ◌and◌, ◌or◌, when}
-use Rattle.laws.proofs.Choose.{tested, if_yes, if_no, and_both, both_and, or_either, or_first, or_second, choose_cases, when_then, then_when}
+use Rattle.laws.specs.Choose.{choose, ◌and◌, ◌or◌}
+use Rattle.laws.proofs.Choose.{tested, if_yes, if_no, and_both, both_and, or_either, or_first, or_second, choose_cases, then_when}
 use Rattle.rules.specs.Numbers.{max_number, is_binary, is_simple, class_maximum}
 use Rattle.rules.specs.Machine.{Slot}
 use Rattle.rules.specs.Semaphore.{requeued}

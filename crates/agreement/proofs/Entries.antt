@@ -1,16 +1,16 @@
 -- The tests of the places of a queue and of the sequence of ready tasks, and what they say of how often a task stands in it.
-use mathlib.Core.Path.{◌≡◌, refl, ap, sym, subst, ◌∙◌}
+use mathlib.Core.Path.{◌≡◌, refl, sym, subst}
 use mathlib.Core.Bool.{Bool, true, false}
 use mathlib.Core.List.{List, [], ◌∷◌}
 use mathlib.Core.Logic.{⊎_elim}
-use Prim.Native.Nat.{ℕ, zero, suc, pred, ◌+◌, ◌≤◌, ◌<◌}
+use Prim.Native.Nat.{ℕ, zero, suc, pred, ◌≤◌, ◌<◌}
 use native.Mathlib.Omega.{arith}
 use native.Mathlib.Nat.{not-suc-le-zero}
 use native.Mathlib.Decide.{dec_lt}
 use lib.Dec.{eqb}
 use lib.ListN.{length, get_or}
 use borrow.Author.Tests.{eqb-true, eqb-false, eq-eqb, ne_eqb}
-use Rattle.laws.specs.Choose.{isnt, bit}
+use Rattle.laws.specs.Choose.{isnt}
 use Rattle.laws.proofs.Choose.{tested, never, if_yes, and_both, both_and, isnt_false, false_isnt}
 use Rattle.rules.specs.Machine.{Slot, Tables}
 use Rattle.rules.specs.Agreement.{occurs, is_waiter, is_ready_task}

@@ -9,8 +9,7 @@ use native.Mathlib.Omega.{arith}
 use native.Mathlib.Nat.{not-suc-le-zero}
 use native.Mathlib.Decide.{ℕ_discrete, dec_lt}
 use lib.ListN.{length, get_or, set, replicate, length-set, length-replicate, get_or-replicate, get_or-eq_default}
-use lib.Seq.{get_or-set_same, get_or-set_other, set_out}
-use Rattle.laws.specs.Choose.{choose}
+use lib.Seq.{get_or-set_same, get_or-set_other}
 use Rattle.laws.proofs.Choose.{choose_cases, if_yes, if_no, tested, never}
 use Rattle.rules.specs.Machine.{Tables, is_live}
 use Rattle.laws.proofs.Fit.{set_cases}

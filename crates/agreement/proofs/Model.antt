@@ -2,17 +2,15 @@
 use mathlib.Core.Path.{◌≡◌, ap, sym, subst, ◌∙◌}
 use mathlib.Core.Bool.{Bool}
 use mathlib.Core.List.{List}
-use Prim.Native.Nat.{ℕ, suc, pred, ◌+◌, ◌-◌, ◌≤◌, ◌<◌}
+use Prim.Native.Nat.{ℕ, suc, pred, ◌-◌, ◌≤◌, ◌<◌}
 use native.Mathlib.Omega.{arith}
 use lib.ListN.{length, get_or, take}
 use lib.Seq.{length-take-le, get_or-take}
-use Rattle.laws.proofs.Fit.{length_tabulate}
 use Rattle.words.specs.Words.{word_at}
 use Rattle.rules.specs.declared.Task.{Task}
 use Rattle.rules.specs.Machine.{Slot, task_of, slot_of}
-use Rattle.semaphore.specs.Record.{slot_from}
 use Rattle.tables.specs.declared.Head.{Head}
-use Rattle.tables.specs.Layout.{slot_place, task_at, head_of, slot_with, record_at, model_of}
+use Rattle.tables.specs.Layout.{task_at, head_of, slot_with, record_at, model_of}
 use Rattle.tables.specs.Sizes.{Bounded}
 use Rattle.tables.proofs.LayoutRead.{queue_places}
 use Rattle.lookup.proofs.Model.{task_read, slot_read}

@@ -1,14 +1,14 @@
 -- The passes over the slots, over the sequence of ready tasks and over the tasks are agreement, for tables whose numbers fit 32 bits.
-use mathlib.Core.Path.{◌≡◌, refl, ap, sym, subst, ◌∙◌}
+use mathlib.Core.Path.{◌≡◌, ap, sym, subst, ◌∙◌}
 use mathlib.Core.Bool.{Bool, true, false}
 use mathlib.Core.List.{List, []}
 use mathlib.Core.Logic.{⊎_elim}
-use Prim.Native.Nat.{ℕ, suc, pred, ◌%◌, ◌+◌, ◌*◌, ◌≤◌, ◌<◌}
+use Prim.Native.Nat.{ℕ, suc, pred, ◌+◌, ◌*◌, ◌≤◌, ◌<◌}
 use native.Mathlib.Omega.{arith}
 use lib.Dec.{leb, eqb}
 use lib.ListN.{length, get_or}
 use borrow.Author.Tests.{leb-true, eqb-true, eqb-false, eq-eqb, le-leb}
-use Rattle.laws.specs.Choose.{choose, ◌and◌, ◌or◌}
+use Rattle.laws.specs.Choose.{choose, ◌and◌}
 use Rattle.laws.proofs.Choose.{tested, never, same_test, choose_cases, if_yes, if_no, and_both, both_and, or_either, or_first, or_second}
 use Rattle.laws.proofs.Choose.{when_then, then_when, isnt_false, false_isnt}
 use Rattle.laws.proofs.All.{all_at, all_of}
@@ -22,7 +22,7 @@ use Rattle.rules.proofs.Invariants.Agreeing.{agrees_true, true_agrees, agrees_it
 use Rattle.rules.proofs.Invariants.Facts.{nth_task, nth_slot, waits_on, Unheld, Held, Facts, live_within}
 use Rattle.rules.proofs.Invariants.FromTests.{agrees_facts}
 use Rattle.rules.proofs.Invariants.ToTests.{names_of}
-use Rattle.agreement.specs.Tests.{seen_at, seen_below, entry_agrees, queue_agrees, class_agrees, head_agrees, slot_agrees, task_agrees, slots_agree}
+use Rattle.agreement.specs.Tests.{seen_at, seen_below, entry_agrees, queue_agrees, head_agrees, slot_agrees, task_agrees, slots_agree}
 use Rattle.agreement.specs.Tests.{place_agrees, sequence_agrees, seen_all, tasks_agree}
 use Rattle.agreement.proofs.Marks.{queue_of, entry_of, Place, length_below, seen_kept, seen_made, seen_from, below_made, below_from}
 use Rattle.agreement.proofs.Classes.{class_owned, class_other, class_maximum_lem, class_agrees_lem}

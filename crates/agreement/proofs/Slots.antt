@@ -1,13 +1,12 @@
 -- A slot's test by the case that the code has come to.
-use mathlib.Core.Path.{◌≡◌, refl, ap, sym, subst, ◌∙◌}
+use mathlib.Core.Path.{◌≡◌, refl, ap, sym, ◌∙◌}
 use mathlib.Core.Bool.{Bool, true, false}
 use mathlib.Core.List.{List}
 use Prim.Native.Nat.{ℕ, ◌≤◌, ◌<◌}
 use native.Mathlib.Omega.{arith}
 use lib.ListN.{length}
 use borrow.Author.Tests.{eq-eqb, ne_eqb, le-leb, lt-leb}
-use Rattle.laws.specs.Choose.{choose}
-use Rattle.laws.proofs.Choose.{never, if_yes, if_no, and_both}
+use Rattle.laws.proofs.Choose.{never, if_yes, if_no}
 use Rattle.rules.specs.Numbers.{max_generation}
 use Rattle.rules.specs.Machine.{Slot, Tables, is_live, id_of}
 use Rattle.rules.specs.Agreement.{is_clear}

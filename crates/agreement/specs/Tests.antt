@@ -8,7 +8,7 @@ use Rattle.rules.specs.declared.Task.{Task}
 use Rattle.rules.specs.Numbers.{max_priority, max_generation, within, allowed, is_binary, is_simple}
 use Rattle.rules.specs.Machine.{Slot, Tables, task_of, slot_of, waits, is_live, id_of}
 use Rattle.rules.specs.Semaphore.{requeued}
-use Rattle.rules.specs.Agreement.{is_ending, is_at_rest, is_waiter, is_ready_task, is_named_right, is_zero_where_queued, is_binary_right, is_clear}
+use Rattle.rules.specs.Agreement.{is_ending, is_at_rest, is_ready_task, is_named_right, is_zero_where_queued, is_binary_right, is_clear}
 
 -- what a pass answers and leaves: the marks are told where the test holds
 pub record Marked (agrees : Bool) (after : List Bool) (r : Bool) (seen : List Bool) : Type 0 where

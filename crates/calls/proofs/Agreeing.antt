@@ -8,18 +8,18 @@ use native.Mathlib.Omega.{arith}
 use native.Mathlib.Decide.{dec_lt}
 use lib.Dec.{eqb}
 use lib.ListN.{length, get_or, get_or-eq_default}
-use borrow.Author.Tests.{eqb-true, leb-true}
+use borrow.Author.Tests.{eqb-true}
 use Rattle.laws.specs.Choose.{◌or◌}
-use Rattle.laws.proofs.Choose.{tested, or_either, and_both, if_yes}
+use Rattle.laws.proofs.Choose.{tested, or_either, if_yes}
 use Rattle.words.specs.Words.{word_at}
 use Rattle.words.proofs.WordsInBytes.{Bytes, Words}
 use Rattle.rules.specs.declared.Call.{Call}
 use Rattle.rules.specs.Numbers.{allowed, is_binary}
-use Rattle.rules.specs.Machine.{Slot, Tables, no_task, is_live}
+use Rattle.rules.specs.Machine.{Tables, no_task, is_live}
 use Rattle.rules.specs.Agreement.{Agrees, is_ending}
 use Rattle.rules.specs.Calls.{Outcome, perform, step}
 use Rattle.rules.specs.Fits.{call_fits}
-use Rattle.rules.proofs.Invariants.Facts.{Facts, TaskFits, SlotFits, Unheld, Held, nth_task, nth_slot, maximum_within}
+use Rattle.rules.proofs.Invariants.Facts.{Facts, Unheld, Held, nth_task, nth_slot, maximum_within}
 use Rattle.rules.proofs.Invariants.FromTests.{agrees_facts}
 use Rattle.rules.proofs.Invariants.Agreeing.{agrees_true, sizes_within}
 use Rattle.rules.proofs.Invariants.Room as room

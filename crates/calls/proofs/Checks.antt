@@ -7,7 +7,7 @@ use native.Mathlib.Omega.{arith}
 use lib.Dec.{eqb}
 use lib.ListN.{length, get_or}
 use borrow.Author.Tests.{le-leb, lt-leb}
-use Rattle.laws.specs.Choose.{choose, ◌and◌, ◌or◌, isnt}
+use Rattle.laws.specs.Choose.{choose, ◌and◌, isnt}
 use Rattle.laws.proofs.Choose.{if_yes, if_no, choose_same, both_and}
 use Rattle.laws.specs.All.{all}
 use Rattle.words.specs.Words.{word_at}

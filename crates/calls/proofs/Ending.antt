@@ -6,7 +6,7 @@ use Prim.Native.Nat.{ℕ, pred, ◌+◌, ◌≤◌, ◌<◌}
 use native.Mathlib.Omega.{arith}
 use lib.Dec.{eqb}
 use lib.ListN.{length, get_or, take}
-use Rattle.laws.specs.Choose.{choose, ◌and◌, isnt}
+use Rattle.laws.specs.Choose.{◌and◌, isnt}
 use Rattle.laws.specs.Rows.{fit}
 use Rattle.laws.proofs.Fit.{get_d_fit}
 use Rattle.laws.proofs.Choose.{if_yes, if_no}

@@ -1,18 +1,17 @@
 -- How a call on a semaphore begins: what `enter` says of the call's whole chain of checks, and of the semaphore that it found.
 use mathlib.Core.Path.{◌≡◌, sym, subst, ap, ◌∙◌}
 use mathlib.Core.Bool.{true, false}
-use mathlib.Core.List.{List, [], ◌∷◌}
+use mathlib.Core.List.{List}
 use mathlib.Core.Logic.{⊎_elim}
-use Prim.Native.Nat.{ℕ, suc, pred, ◌+◌, ◌-◌, ◌≤◌, ◌<◌}
+use Prim.Native.Nat.{ℕ, pred, ◌+◌, ◌-◌, ◌≤◌, ◌<◌}
 use native.Mathlib.Numerals.{sub-one}
 use native.Mathlib.Omega.{arith}
 use lib.Dec.{eqb}
-use lib.ListN.{length, get_or}
-use lib.Seq.{get_or-take}
+use lib.ListN.{length}
 use borrow.Author.Tests.{eqb-true, eqb-false, eq-eqb, ne_eqb}
-use Rattle.laws.specs.Choose.{choose, ◌or◌}
+use Rattle.laws.specs.Choose.{choose}
 use Rattle.laws.proofs.Choose.{tested, if_yes, if_no}
-use Rattle.rules.specs.Machine.{Slot, Tables, free_slot, slot_of, is_live, names, slot_named}
+use Rattle.rules.specs.Machine.{Slot, Tables, slot_of, is_live, names, slot_named}
 use Rattle.rules.specs.Agreement.{Agrees}
 use Rattle.rules.specs.Calls.{Outcome, refused, unless, task_only, any_caller}
 use Rattle.rules.proofs.Invariants.FromTests.{agrees_facts}
@@ -21,14 +20,14 @@ use Rattle.rules.proofs.Invariants.Refusals.{Caller, found}
 use Rattle.semaphore.specs.declared.Semaphore.{Semaphore}
 use Rattle.semaphore.specs.Record.{slot_from, Stands}
 use Rattle.semaphore.proofs.TakeGive.{length_queue}
-use Rattle.tables.specs.Layout.{laid, model_of, record_at}
+use Rattle.tables.specs.Layout.{model_of, record_at}
 use Rattle.tables.proofs.LayoutRead.{padded_laid}
 use Rattle.lookup.proofs.Model.{length_slots, slot_read}
 use Rattle.lookup.proofs.CallerAndSlot.{task_only_then, any_caller_then, named, not_named}
 use Rattle.calls.specs.declared.enter.Entered.{Entered}
 use Rattle.calls.specs.Agreeing.{Agreeing}
 use Rattle.calls.specs.Entered.{Found, Enters}
-use Rattle.calls.proofs.Agreeing.{tasks_few, slots_few, entry_tasks, agrees_holds}
+use Rattle.calls.proofs.Agreeing.{tasks_few, slots_few, agrees_holds}
 use Rattle.calls.proofs.Doing.{unless_refused_lem}
 
 -- ---- the checks of the caller, and then the rest

@@ -4,13 +4,13 @@ use mathlib.Core.List.{List, [], ◌∷◌, ◌++◌, map}
 use Prim.Native.Nat.{ℕ, suc, pred, ◌+◌, ◌-◌, ◌*◌, ◌≤◌, ◌<◌}
 use native.Mathlib.Numerals.{add-one, sub-one}
 use native.Mathlib.Omega.{arith}
-use lib.ListN.{length, get_or, take, length-set, length-map, length-append}
+use lib.ListN.{length, get_or, take, length-map, length-append}
 use lib.Seq.{sets, take-suc, length-take-le}
 use Rattle.laws.proofs.Fit.{get_d_map, length_tabulate, tabulate_last}
 use Rattle.words.specs.Words.{bytes_of}
 use Rattle.words.proofs.WordsInBytes.{Bytes}
 use Rattle.rules.specs.declared.Task.{Task}
-use Rattle.rules.specs.Machine.{Slot, Tables, unstarted, with_ready, no_task, task_of, put_task, put_slot}
+use Rattle.rules.specs.Machine.{Slot, Tables, unstarted, with_ready, no_task, put_task, put_slot}
 use Rattle.rules.specs.Calls.{readied, wake, wake_all, new_task, up_to, started}
 use Rattle.rules.proofs.Invariants.Waking.{wake_all_length, wake_all_ready}
 use Rattle.semaphore.specs.declared.Semaphore.{Semaphore}

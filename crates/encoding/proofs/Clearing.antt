@@ -2,7 +2,7 @@
 use Rattle.std.proofs.Common.{◌≡◌, ℕ, zero, suc, ◌+◌, ◌-◌, ◌*◌, ◌/◌, ◌<◌, ◌≤◌, List, [], ◌∷◌, map, length, set, replicate, sym, refl, ap, ◌∙◌, add-one, arith}
 use lib.Seq.{sets, set_out}
 use Rattle.laws.specs.Rows.{rows}
-use Rattle.sections.specs.Run.{Place, at}
+use Rattle.sections.specs.Run.{at}
 use Rattle.encoding.specs.Laid.{place_row, laid_places, laid_grants}
 
 -- two zeros for each script

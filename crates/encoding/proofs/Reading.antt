@@ -1,8 +1,8 @@
 -- Reading events one after another: what is left of the numbers holds the events that are left.
-use Rattle.std.proofs.Common.{◌≡◌, ℕ, zero, suc, pred, ◌+◌, ◌-◌, ◌<◌, ◌≤◌, Bool, true, false, eqb, leb, List, [], ◌∷◌, length, get_or, take, drop, sym, refl, ap, ◌∙◌, ⊎_elim, not-suc-le-zero, arith, length-drop, take_all, drop-drop, eqb-true, le-leb, leb-true}
-use lib.Seq.{drop-nil, drop-length}
+use Rattle.std.proofs.Common.{◌≡◌, ℕ, zero, suc, pred, ◌+◌, ◌-◌, ◌<◌, ◌≤◌, Bool, true, false, eqb, leb, List, [], ◌∷◌, length, get_or, take, drop, sym, refl, ap, ◌∙◌, not-suc-le-zero, arith, length-drop, take_all, drop-drop, eqb-true, leb-true}
+use lib.Seq.{drop-length}
 use Rattle.laws.specs.Choose.{choose, ◌and◌, isnt}
-use Rattle.laws.proofs.Choose.{if_yes, if_no, if_eq, if_ne, if_le, if_not_le, choose_cases}
+use Rattle.laws.proofs.Choose.{if_eq, if_ne, if_le, if_not_le, choose_cases}
 use Rattle.sections.specs.Run.{Event, caller_of}
 use Rattle.sections.specs.Run.Event.{Turn, Other, NoEvent}
 use Rattle.sections.specs.Refusals.{Input, is_event, has_script, is_allowed}

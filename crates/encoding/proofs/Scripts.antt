@@ -1,10 +1,9 @@
 -- A look through the rows of scripts, one after another: what is left of the rows holds what is left of the scripts, sections and steps.
-use Rattle.std.proofs.Common.{◌≡◌, ℕ, zero, suc, ◌+◌, ◌-◌, ◌/◌, ◌<◌, ◌≤◌, Bool, true, false, eqb, List, [], ◌∷◌, length, get_or, drop, sym, refl, ap, ◌∙◌, not-suc-le-zero, add-one, arith, length-drop, drop-cons, eq-eqb, ne_eqb}
-use lib.Seq.{drop-length}
-use Rattle.laws.specs.Choose.{choose, ◌or◌}
+use Rattle.std.proofs.Common.{◌≡◌, ℕ, zero, suc, ◌+◌, ◌-◌, ◌/◌, ◌<◌, ◌≤◌, true, false, eqb, List, [], ◌∷◌, length, get_or, drop, sym, refl, ap, ◌∙◌, not-suc-le-zero, add-one, arith, length-drop, drop-cons}
+use Rattle.laws.specs.Choose.{◌or◌}
 use Rattle.laws.proofs.Choose.{if_yes, if_no, if_eq, if_ne, choose_cases}
 use Rattle.laws.proofs.Fit.{length_tabulate, get_d_tabulate}
-use Rattle.sections.specs.Scripts.{Section, Script, script_at, index_of}
+use Rattle.sections.specs.Scripts.{Script, index_of}
 use Rattle.encoding.specs.declared.Row.{Row}
 use Rattle.encoding.specs.Rows.{row_at, rows_of, no_row, begins_script, begins_section, step_of, steps_from, section_of, sections_from, no_section, script_of, scripts_from, SectionRow, ScriptRow}
 

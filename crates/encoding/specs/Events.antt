@@ -1,8 +1,8 @@
 -- Events as numbers laid end to end: a kind, then its numbers as in a session's line. 1 turn TASK, 2 start SLOTS COUNT PRIORITY ..,
 -- 3 create CALLER NAME COUNT ATTRIBUTES MAXIMUM, 4 ident NAME, 5 delete CALLER ID, 6 obtain CALLER ID OPTIONS TIMEOUT, 7 release CALLER ID,
 -- 8 flush CALLER ID, 9 tick.
-use Rattle.std.specs.Prelude.{ℕ, zero, suc, pred, ◌+◌, Bool, List, [], ◌∷◌, length, take, drop, ◌==◌, nat_le, slice_index}
-use Rattle.laws.specs.Choose.{choose, ◌and◌}
+use Rattle.std.specs.Prelude.{ℕ, zero, suc, pred, ◌+◌, List, [], ◌∷◌, length, take, drop, ◌==◌, nat_le, slice_index}
+use Rattle.laws.specs.Choose.{choose}
 use Rattle.rules.specs.declared.Call.{Call}
 use Rattle.rules.specs.declared.Call.TheVariants.{Start, Create, Ident, Delete, Obtain, Release, Flush, Tick}
 use Rattle.rules.specs.Semaphore.{wait_of}

@@ -9,12 +9,12 @@ use Rattle.rules.specs.declared.Call.{Call}
 use Rattle.rules.specs.declared.Answer.{Answer}
 use Rattle.rules.specs.Calls.{looked, perform}
 use Rattle.rules.proofs.Invariants.Agreeing.{agrees_true, true_agrees}
-use Rattle.tables.specs.Layout.{laid, model_of, is_laid}
+use Rattle.tables.specs.Layout.{model_of, is_laid}
 use Rattle.tables.proofs.LayoutTest.{laid_model_of, is_laid_laid}
 use Rattle.agreement.specs.Bytes.{agrees_bytes}
 use Rattle.calls.specs.Agreeing.{Agreeing}
 use Rattle.calls.proofs.Agreeing.{agrees_holds}
-use Rattle.manager.specs.Entry.{Reply, Replied, reply, no_next, reply_to, looked_in}
+use Rattle.manager.specs.Entry.{Replied, reply, no_next, reply_to, looked_in}
 
 -- bytes that pass are the layout of tables that agree; only bytes that are words can be read back
 pub tested : {bs : List ℕ} → Bytes bs → agrees_bytes bs ≡ true → Agreeing bs

@@ -7,7 +7,7 @@ use Rattle.tables.specs.Layout.{tables_length}
 use Rattle.sections.specs.Scripts.{plain}
 use Rattle.encoding.specs.Rows.{scripts_of}
 use Rattle.encoding.specs.Laid.{memory}
-use Rattle.runner.specs.Reply.{RunReply, run_reply}
+use Rattle.runner.specs.Reply.{RunReply}
 use Rattle.plain.specs.Grants.{task_in, grants_of}
 use Rattle.report.specs.Report.{Report}
 

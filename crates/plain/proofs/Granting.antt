@@ -1,19 +1,16 @@
 -- The plain run by the rows of scripts: the steps of a granted section one after another, and the tasks of the scripts.
 use mathlib.Core.Path.{◌≡◌, refl, sym, subst, ap, ◌∙◌}
-use mathlib.Core.Bool.{true}
 use mathlib.Core.List.{List, [], ◌∷◌, ◌++◌, map, append_assoc, append-nil}
 use Prim.Native.Nat.{ℕ, zero, suc, pred, ◌+◌, ◌*◌, ◌/◌, ◌≤◌, ◌<◌}
-use native.Mathlib.Nat.{not-suc-le-zero}
 use native.Mathlib.Numerals.{add-one}
 use native.Mathlib.Omega.{arith}
-use lib.ListN.{length, get_or, take, drop, set, length-append, length-map, drop_of_length-le, get_or-eq_default}
+use lib.ListN.{length, get_or, take, drop, set, length-map, drop_of_length-le, get_or-eq_default}
 use lib.Seq.{drop-cons, take-suc-set, length-take-le}
 use Rattle.sections.specs.Scripts.{Step, Section, Script, Memory, Grant, script_at, section_at, index_of, do_step, do_steps, steps_of, plain}
 use Rattle.sections.specs.Scripts.Step.{NoStep}
 use Rattle.sections.proofs.Indices.{index_task}
 use Rattle.encoding.specs.declared.Row.{Row}
-use Rattle.encoding.specs.Rows.{rows_of, no_row, steps_from, sections_from, no_section, script_of, scripts_from, scripts_of, SectionRow, ScriptRow}
-use Rattle.encoding.specs.Laid.{reaches}
+use Rattle.encoding.specs.Rows.{rows_of, steps_from, sections_from, no_section, scripts_from, scripts_of, SectionRow, ScriptRow}
 use Rattle.runner.specs.Turns.{Stepped}
 use Rattle.plain.specs.Grants.{granted, grants_of, task_in, Tasked, Reach}
 use Rattle.encoding.proofs.Scripts.{At, script_begins, script_passes}

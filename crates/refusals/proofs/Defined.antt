@@ -8,7 +8,7 @@ use native.Mathlib.Omega.{arith}
 use lib.Dec.{leb, eqb}
 use lib.ListN.{length}
 use borrow.Author.Tests.{lt-leb, le-leb}
-use Rattle.laws.specs.Choose.{choose, ◌and◌}
+use Rattle.laws.specs.Choose.{choose}
 use Rattle.laws.specs.All.{all}
 use Rattle.laws.proofs.Choose.{and_both, both_and, tested, never, if_yes, if_no}
 use Rattle.laws.proofs.All.{all_at, all_of}

@@ -3,16 +3,16 @@ use mathlib.Core.Path.{◌≡◌, refl, sym, ap, ap₂, ◌∙◌}
 use mathlib.Core.Bool.{Bool, true, false}
 use mathlib.Core.List.{List}
 use mathlib.Core.Logic.{⊎_elim}
-use Prim.Native.Nat.{ℕ, zero, suc, pred, ◌-◌, ◌%◌, ◌≤◌, ◌<◌}
+use Prim.Native.Nat.{ℕ, zero, suc, pred, ◌-◌, ◌%◌, ◌≤◌}
 use native.Mathlib.Omega.{arith}
 use lib.Dec.{leb, ltb, eqb}
 use lib.ListN.{length, get_or}
-use borrow.Author.Tests.{eqb-true, eqb-false, leb-true, leb-false, le-leb, lt-leb, lt-ltb, le-ltb, eq-eqb, ne_eqb}
+use borrow.Author.Tests.{eqb-true, eqb-false, leb-true, leb-false, le-leb, lt-leb, lt-ltb, le-ltb}
 use Rattle.laws.specs.Choose.{choose, ◌and◌, isnt}
 use Rattle.laws.proofs.Choose.{if_yes, if_no, tested}
 use Rattle.words.specs.Words.{word_at}
-use Rattle.rules.specs.Numbers.{within, is_binary}
-use Rattle.rules.specs.Machine.{Tables, Slot, task_of, slot_of, free_slot, waits, names, slot_named}
+use Rattle.rules.specs.Numbers.{is_binary}
+use Rattle.rules.specs.Machine.{Tables, Slot, task_of, slot_of, free_slot, waits, slot_named}
 use Rattle.rules.specs.Calls.{task_only}
 use Rattle.semaphore.specs.declared.Semaphore.{Semaphore}
 use Rattle.semaphore.specs.Record.{slot_from}

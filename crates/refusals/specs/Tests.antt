@@ -1,6 +1,6 @@
 -- The tests of what is handed in, on scripts laid out as rows.
 use Rattle.std.specs.Prelude.{Bool, List, [], ℕ, leb, length, get_or}
-use Rattle.laws.specs.Choose.{choose, ◌and◌}
+use Rattle.laws.specs.Choose.{◌and◌}
 use Rattle.laws.specs.All.{all}
 use Rattle.rules.specs.Machine.{Tables}
 use Rattle.sections.specs.Scripts.{Section, Script, Memory}

@@ -1,8 +1,8 @@
 -- The bytes that a report takes: a number has at most ten digits.
-use mathlib.Core.Path.{◌≡◌, refl, sym, ap, subst, ◌∙◌}
+use mathlib.Core.Path.{◌≡◌, refl, ap, ◌∙◌}
 use mathlib.Core.Bool.{true}
 use mathlib.Core.List.{List, [], ◌∷◌, ◌++◌}
-use Prim.Native.Nat.{ℕ, zero, suc, ◌+◌, ◌*◌, ◌≤◌, max}
+use Prim.Native.Nat.{ℕ, zero, suc, ◌+◌, ◌*◌, ◌≤◌}
 use native.Mathlib.Nat.{mul-suc, mul-zero}
 use native.Mathlib.Omega.{arith}
 use lib.Dec.{leb, eqb}
@@ -14,7 +14,7 @@ use Rattle.laws.proofs.Choose.{choose_cases}
 use Rattle.line.specs.Print.{decimal, answer_line}
 use Rattle.line.proofs.Printing.{decimal_length, answer_length}
 use Rattle.report.specs.Report.{spaced, paired, pair_text, line_text, pairs_text, locals_text, places_text, open_pairs, run_text, left_text, plain_text}
-use Rattle.report.specs.Report.{report_text, report_room, Report, Printable, cells_word, locals_word, place_word, grants_word, open_word, plainly}
+use Rattle.report.specs.Report.{report_text, report_room, Report, cells_word, locals_word, place_word, grants_word, open_word, plainly}
 use Rattle.report.specs.Report.{serial_yes, serial_no, serial_open, is_serial}
 use Rattle.report.proofs.Printing.{open_at, open_rows, open_none, locals_at, place_at}
 

@@ -1,5 +1,5 @@
 -- What a turn does to a whole state in lent bytes and numbers.
-use Rattle.std.proofs.Common.{◌≡◌, ℕ, pred, ◌+◌, ◌*◌, ◌<◌, ◌≤◌, true, false, eqb, leb, List, length, get_or, drop, set, sym, refl, ap, ◌∙◌, subst, ap₂, arith, leb-false, leb-true}
+use Rattle.std.proofs.Common.{◌≡◌, ℕ, pred, ◌+◌, ◌*◌, ◌<◌, ◌≤◌, true, eqb, leb, List, length, get_or, drop, set, sym, refl, ap, ◌∙◌, subst, ap₂, arith, leb-false, leb-true}
 use native.Mathlib.Decide.{dec_lt}
 use borrow.Author.Tests.{eqb-false}
 use Rattle.laws.specs.Choose.{◌or◌}

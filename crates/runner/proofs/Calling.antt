@@ -1,5 +1,5 @@
 -- One call on the tables, and what it says to the scripts' obtains.
-use Rattle.std.proofs.Common.{◌≡◌, ℕ, ◌<◌, ◌≤◌, Bool, true, false, List, length, get_or, sym, refl, ap, ◌∙◌, subst, ap₂}
+use Rattle.std.proofs.Common.{◌≡◌, ℕ, ◌<◌, ◌≤◌, Bool, true, List, length, sym, ap, ◌∙◌, subst, ap₂}
 use Rattle.rules.specs.declared.Answer.{Answer}
 use Rattle.rules.specs.declared.Call.{Call}
 use Rattle.rules.specs.Machine.{Tables}
@@ -10,9 +10,9 @@ use Rattle.calls.specs.Agreeing.{Agreeing}
 use Rattle.calls.specs.Reply.{Replied, reply}
 use Rattle.calls.proofs.Agreeing.{model_is, agrees_after}
 use Rattle.sections.specs.Scripts.{script_at}
-use Rattle.sections.specs.Run.{State, obtainer_of, said, called}
+use Rattle.sections.specs.Run.{obtainer_of, said, called}
 use Rattle.encoding.specs.Rows.{scripts_of}
-use Rattle.runner.specs.State.{told, Settles, Holds, Called}
+use Rattle.runner.specs.State.{told, Settles, Called}
 use Rattle.runner.proofs.Telling.{Waiting, all_said}
 
 module _ (ns m places grants : List ℕ) (A : Agreeing m) (few : (i : ℕ) → i < length (scripts_of ns) → (script_at (scripts_of ns) i).task ≤ 32)

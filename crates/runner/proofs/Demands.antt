@@ -1,5 +1,5 @@
 -- What a run leaves in all that is lent: demand 3, and a refused run.
-use Rattle.std.proofs.Common.{◌≡◌, ℕ, true, eqb, ◌≢◌, List, [], length, replicate, sym, refl, ap, ◌∙◌, subst, arith, eq-eqb, ne_eqb}
+use Rattle.std.proofs.Common.{◌≡◌, ℕ, eqb, ◌≢◌, List, [], length, replicate, sym, refl, ap, ◌∙◌, subst, arith, eq-eqb, ne_eqb}
 use native.Mathlib.Decide.{ℕ_discrete}
 use Rattle.laws.specs.Choose.{choose}
 use Rattle.laws.proofs.Choose.{choose_cases, if_yes, if_no}

@@ -1,15 +1,13 @@
 -- The events of a run, one after another: what is left of them leads from the present state to the end.
-use Rattle.std.proofs.Common.{◌≡◌, ℕ, zero, suc, ◌+◌, ◌-◌, ◌<◌, ◌≤◌, Bool, true, false, List, [], ◌∷◌, length, get_or, take, drop, sym, refl, ap, ◌∙◌, subst, ⊎_elim, arith, length-drop, drop_of_length-le, drop-drop, ltb-true}
+use Rattle.std.proofs.Common.{◌≡◌, ℕ, ◌+◌, ◌-◌, ◌<◌, ◌≤◌, true, false, List, [], ◌∷◌, length, get_or, take, drop, sym, ap, ◌∙◌, subst, ⊎_elim, arith, drop-drop, ltb-true}
 use native.Mathlib.Decide.{dec_lt}
 use Rattle.laws.proofs.Choose.{tested, never}
 use Rattle.sections.specs.Scripts.{Script, index_of}
 use Rattle.sections.specs.Run.{Event, State, event_of, run_from}
-use Rattle.sections.specs.Run.Event.{NoEvent}
-use Rattle.encoding.specs.Rows.{scripts_of}
 use Rattle.encoding.specs.Events.{event_size, event_at, events_from, events_of}
 use Rattle.runner.specs.Turns.{Stands, RoomAt, RoomAlong, is_run}
-use Rattle.runner.specs.Turns.RoomAlong.{none, more}
-use Rattle.encoding.proofs.Reading.{rest, Events, size_is, events_next, events_more, events_fail, events_break, event_turn}
+use Rattle.runner.specs.Turns.RoomAlong.{more}
+use Rattle.encoding.proofs.Reading.{Events, size_is, events_next, events_more, events_fail, events_break, event_turn}
 
 -- ---- what is left are events that are run
 

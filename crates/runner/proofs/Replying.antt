@@ -1,19 +1,17 @@
 -- What a run leaves in all that is lent, by why it is refused and the state that it ends in.
-use Rattle.std.proofs.Common.{◌≡◌, ℕ, ◌*◌, ◌<◌, ◌≤◌, Bool, true, false, eqb, leb, ◌≢◌, List, [], length, replicate, sym, refl, ap, ◌∙◌, subst, ap₂, arith, eq-eqb, ne_eqb, leb-true}
+use Rattle.std.proofs.Common.{◌≡◌, ℕ, ◌*◌, ◌≤◌, true, false, eqb, leb, ◌≢◌, List, [], length, replicate, sym, refl, ap, ◌∙◌, subst, ap₂, arith, eq-eqb, ne_eqb, leb-true}
 use native.Mathlib.Decide.{ℕ_discrete}
 use Rattle.laws.specs.Choose.{choose, ◌and◌}
 use Rattle.laws.proofs.Choose.{choose_cases, if_yes, if_no, and_both}
 use Rattle.words.proofs.WordsInBytes.{Words}
-use Rattle.rules.specs.declared.Answer.{Answer}
 use Rattle.rules.specs.Machine.{Tables, next}
-use Rattle.rules.specs.Agreement.{Agrees, agrees}
+use Rattle.rules.specs.Agreement.{Agrees}
 use Rattle.rules.proofs.Invariants.Agreeing.{agrees_true}
 use Rattle.tables.specs.Layout.{laid, model_of}
 use Rattle.agreement.specs.Bytes.{agrees_bytes}
 use Rattle.calls.specs.Agreeing.{Agreeing}
-use Rattle.sections.specs.Scripts.{Memory}
-use Rattle.sections.specs.Run.{Event, Place, at, State, run_from}
-use Rattle.sections.specs.Refusals.{Input, refusal, at_first, each_event, input_fits}
+use Rattle.sections.specs.Run.{at, State, run_from}
+use Rattle.sections.specs.Refusals.{Input, refusal, at_first, each_event}
 use Rattle.encoding.specs.Rows.{scripts_of, rows_fit}
 use Rattle.encoding.specs.Events.{events_of}
 use Rattle.encoding.specs.Laid.{memory, laid_places, laid_grants}

@@ -1,6 +1,6 @@
 -- What a turn does, by the rows of its script.
 use Rattle.std.proofs.Common.{◌≡◌, ℕ, zero, suc, pred, ◌+◌, ◌/◌, ◌<◌, ◌≤◌, true, false, List, [], ◌∷◌, length, get_or, drop, sym, refl, ap, ◌∙◌, ap₂, ⊎_elim, not-suc-le-zero, arith, length-drop, get_or-drop, le-leb}
-use Rattle.laws.specs.Choose.{choose, ◌or◌}
+use Rattle.laws.specs.Choose.{◌or◌}
 use borrow.Author.Tests.{lt-leb}
 use Rattle.laws.proofs.Choose.{if_yes, if_no, if_eq, if_ne, if_le, if_not_le, tested, or_first, or_second}
 use Rattle.rules.specs.declared.Call.TheVariants.{Obtain, Release}

@@ -6,7 +6,7 @@ use native.Mathlib.Omega.{arith}
 use lib.ListN.{length, take}
 use Rattle.session.specs.declared.Fed.{Fed}
 use Rattle.session.specs.Session.{session}
-use Rattle.session.specs.Kept.{Kept, keeps, outset, Response, after_part, said_to_part, at_end}
+use Rattle.session.specs.Kept.{Kept, keeps, outset, after_part, said_to_part, at_end}
 use Rattle.session.specs.Feeding.{Writes, FedIs}
 use Rattle.session.proofs.Output.{front}
 use Rattle.session.proofs.Feeding.{after_append, said_append, fed_text}

@@ -17,7 +17,7 @@ use Rattle.rules.proofs.Invariants.Kept.{kept}
 use Rattle.tables.specs.Layout.{laid}
 use Rattle.manager.specs.Entry.{Reply}
 use Rattle.line.specs.Line.{line_of}
-use Rattle.line.specs.Print.{answer_line, bad_line}
+use Rattle.line.specs.Print.{answer_line}
 use Rattle.session.specs.Session.{Answered, answer_of, answer_to}
 use Rattle.session.specs.Kept.{Kept, keeps, outset, Response, response_to, respond, end_line, lengthen}
 use Rattle.session.proofs.Line.{Fitting, line_fits, too_long}

@@ -7,7 +7,7 @@ use mathlib.Core.Logic.{◌↔◌, ⊎_elim}
 use Prim.Native.Nat.{ℕ, ◌≤◌}
 use native.Mathlib.Omega.{arith}
 use lib.ListN.{length, take, drop}
-use Rattle.laws.proofs.Choose.{if_yes, if_no, tested, never}
+use Rattle.laws.proofs.Choose.{if_yes, if_no, tested}
 use Rattle.words.proofs.WordsInBytes.{Bytes}
 use Rattle.rules.specs.declared.Call.TheVariants.{Create, Delete}
 use Rattle.rules.specs.Machine.{Tables, unstarted, names, most_urgent, next}

@@ -1,5 +1,5 @@
 -- The kinds of lines by their words: what each part of a file makes of a word and its numbers.
-use mathlib.Core.Path.{◌≡◌, refl, sym, ap, ap₂, ◌∙◌}
+use mathlib.Core.Path.{◌≡◌, sym, ap, ap₂, ◌∙◌}
 use mathlib.Core.Bool.{true, false}
 use mathlib.Core.List.{List}
 use Prim.Native.Nat.{ℕ, ◌-◌, ◌≤◌}
@@ -7,17 +7,14 @@ use native.Mathlib.Omega.{arith}
 use lib.ListN.{get_or}
 use borrow.Author.Tests.{leb-true}
 use Rattle.laws.proofs.Choose.{if_eq, if_ne, if_yes, if_no, and_both}
-use Rattle.rules.specs.Numbers.{within}
-use Rattle.calls.proofs.Checks.{within_low, within_high}
 use Rattle.session.specs.Kept.{respond}
 use Rattle.text.specs.declared.At.{At}
-use Rattle.text.specs.declared.Next.{Next}
-use Rattle.text.specs.declared.Next.TheVariants.{Goes as GoesTo, Stops as StopsAt}
+use Rattle.text.specs.declared.Next.TheVariants.{Goes as GoesTo}
 use Rattle.text.specs.Words.{Said, says, said_by, is_step_word, opens_scripts}
 use Rattle.text.specs.Reading.{Reading, Room, Read, in_part, with_bytes, cell_line, local_line, row_line, section_begins, other_line, script_line, session_line}
 use Rattle.text.specs.Reading.{step_line, section_line}
 use Rattle.text.specs.Reading.Read.{Goes, Stops}
-use Rattle.text.specs.Feeding.{Lent, lent, room_of, reading_of, Inside, Leaves}
+use Rattle.text.specs.Feeding.{Lent, lent, reading_of, Inside, Leaves}
 use Rattle.text.proofs.Lines.{inside_part}
 
 -- another part of the file, and nothing stored

@@ -1,6 +1,6 @@
 -- Bytes one after another: the end of a line, one byte, and the turns of the loop over a part.
 use mathlib.Core.Path.{◌≡◌, refl, sym, ap, subst, ◌∙◌}
-use mathlib.Core.List.{List, [], ◌∷◌, ◌++◌}
+use mathlib.Core.List.{List}
 use Prim.Native.Nat.{ℕ, ◌+◌, ◌≤◌, ◌<◌}
 use native.Mathlib.Numerals.{add-one}
 use native.Mathlib.Omega.{arith}
@@ -13,9 +13,9 @@ use Rattle.text.specs.declared.Next.TheVariants.{Goes as GoesTo, Stops as StopsA
 use Rattle.text.specs.declared.feeding.Progress.{Progress}
 use Rattle.text.specs.declared.feeding.Fed.{Fed as FedTo}
 use Rattle.text.specs.declared.feeding.Fed.TheVariants.{Keeps as KeepsTo, Faults as FaultsAt}
-use Rattle.text.specs.Reading.{Room, Read, read_line, one_more}
+use Rattle.text.specs.Reading.{Room, read_line, one_more}
 use Rattle.text.specs.Reading.Read.{Goes, Stops}
-use Rattle.text.specs.Feeding.{Lent, lent, room_of, reading_of, read_of, InsideNext, Leaves, Kept, keeping, kept_of, Fed, fed_of, Ready, ReadyNext, Feeds}
+use Rattle.text.specs.Feeding.{Lent, room_of, reading_of, read_of, InsideNext, Leaves, Kept, keeping, kept_of, Fed, fed_of, Ready, ReadyNext, Feeds}
 use Rattle.text.specs.Feeding.{Takes}
 use Rattle.text.specs.Feeding.{ended, end_line, lengthen, take_byte, take_bytes, at_end, and_next}
 use Rattle.text.specs.Feeding.Fed.{Keeps, Faults}

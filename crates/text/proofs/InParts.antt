@@ -3,7 +3,6 @@ use mathlib.Core.Path.{◌≡◌, refl, sym, ap, ap₂, subst, ◌∙◌}
 use mathlib.Core.Bool.{true, false}
 use mathlib.Core.List.{List, [], ◌∷◌, ◌++◌, append_assoc, append-nil}
 use mathlib.Core.Logic.{⊎_elim}
-use mathlib.Core.Option.{none}
 use Prim.Native.Nat.{ℕ, ◌+◌, ◌≤◌, ◌<◌}
 use native.Mathlib.Decide.{dec_lt}
 use native.Mathlib.Numerals.{add-one}
@@ -16,21 +15,21 @@ use Rattle.laws.proofs.Choose.{if_yes, if_no, if_lt, if_not_lt, tested}
 use Rattle.rules.specs.Machine.{unstarted}
 use Rattle.tables.specs.Layout.{laid}
 use Rattle.session.specs.Session.{lines}
-use Rattle.session.specs.Kept.{Response, respond}
+use Rattle.session.specs.Kept.{Response}
 use Rattle.session.proofs.Line.{too_long}
 use Rattle.session.proofs.Output.{respond_is}
 use Rattle.session.proofs.Whole.{Plain, plain_more, lines_newline, lines_end, joined}
 use Rattle.text.specs.declared.feeding.Progress.{Progress}
 use Rattle.text.specs.declared.feeding.Fed.{Fed as FedTo}
 use Rattle.text.specs.declared.feeding.Fed.TheVariants.{Keeps as KeepsTo, Faults as FaultsAt}
-use Rattle.text.specs.Words.{Said, said_by, opens_scripts}
+use Rattle.text.specs.Words.{Said, opens_scripts}
 use Rattle.text.specs.Reading.{Reading, Room, Read, Outcome, in_part, with_bytes, script_line, session_line, section_line, event_line, read_line, outset}
 use Rattle.text.specs.Reading.{and_then}
 use Rattle.text.specs.Reading.{one_more, read_lines, read_text}
 use Rattle.text.specs.Reading.Read.{Goes, Stops}
 use Rattle.text.specs.Reading.Outcome.{Says, Fault}
 use Rattle.text.specs.Feeding.{Lent, Kept, keeping, kept_of, Fed, ended, end_line, lengthen, take_byte, take_bytes, and_next, at_end, fed_in_parts, outcome_of}
-use Rattle.text.specs.Feeding.{room_of, fed_of, Feeds, Takes}
+use Rattle.text.specs.Feeding.{room_of, fed_of, Takes}
 use Rattle.text.specs.Feeding.Fed.{Keeps, Faults}
 use Rattle.text.proofs.Saying.{long_none}
 use Rattle.text.proofs.Bytes.{feeds_as, end_none, end_some, SameSizes, same_room}

@@ -1,5 +1,5 @@
 -- What each kind of line leaves in what is lent: cells, locals and rows.
-use mathlib.Core.Path.{◌≡◌, refl, sym, ap, ap₂, subst, ◌∙◌}
+use mathlib.Core.Path.{◌≡◌, sym, ap, ap₂, subst, ◌∙◌}
 use mathlib.Core.Bool.{false}
 use mathlib.Core.List.{List, [], ◌∷◌, ◌++◌}
 use Prim.Native.Nat.{ℕ, pred, ◌+◌, ◌*◌, ◌≤◌, ◌<◌}
@@ -19,7 +19,7 @@ use Rattle.session.proofs.Output.{front}
 use Rattle.text.specs.declared.At.{At}
 use Rattle.text.specs.declared.Next.{Next}
 use Rattle.text.specs.declared.Next.TheVariants.{Goes as GoesTo, Stops as StopsAt}
-use Rattle.text.specs.Reading.{Reading, Read, cell_line, local_line, row_line, section_begins}
+use Rattle.text.specs.Reading.{Read, cell_line, local_line, row_line, section_begins}
 use Rattle.text.specs.Reading.Read.{Goes, Stops}
 use Rattle.text.specs.Feeding.{Lent, lent, room_of, reading_of, Inside, Leaves}
 

@@ -1,6 +1,6 @@
 -- A file read by the definition: the example of docs/SECTIONS.md, and a file with each fault.
 use mathlib.Core.Path.{◌≡◌, refl}
-use mathlib.Core.List.{List, [], ◌∷◌, ◌++◌}
+use mathlib.Core.List.{List, [], ◌∷◌}
 use Prim.Native.Nat.{ℕ}
 use lib.ListN.{replicate}
 use Rattle.laws.specs.Choose.{choose}
@@ -10,7 +10,7 @@ use Rattle.line.specs.Line.{fields, all_digits, spelled, is_number, are_numbers,
 use Rattle.session.specs.Session.{lines}
 use Rattle.session.specs.Kept.{respond}
 use Rattle.text.specs.Words.{event_word, script_part, word_number, takes, count_fits, said_by}
-use Rattle.text.specs.Reading.{Reading, Room, Outcome, cell_line, local_line, row_line, section_begins, other_line, script_line, session_line, step_line}
+use Rattle.text.specs.Reading.{Room, cell_line, local_line, row_line, section_begins, other_line, script_line, session_line, step_line}
 use Rattle.text.specs.Reading.{section_line}
 use Rattle.text.specs.Reading.{event_numbers, event_line, read_line, read_lines, read_text}
 use Rattle.text.specs.Reading.Outcome.{Says, Fault}

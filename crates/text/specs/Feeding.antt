@@ -1,6 +1,6 @@
 -- What the code keeps of a text between two bytes: the numbers read so far stand at the front of what is lent, and a line that has begun in 257 bytes, since
 -- a line of more than 256 is none, however much longer.
-use Rattle.std.specs.Prelude.{◌≡◌, List, [], ◌∷◌, ℕ, suc, ◌+◌, ◌≤◌, ltb, eqb, length, take, set}
+use Rattle.std.specs.Prelude.{◌≡◌, List, [], ◌∷◌, ℕ, ◌+◌, ◌≤◌, ltb, eqb, length, take, set}
 use Rattle.laws.specs.Choose.{choose}
 use Rattle.text.specs.declared.At.{At}
 use Rattle.text.specs.declared.Next.{Next}

@@ -1,6 +1,6 @@
 -- The text of a run of guarded sections, line by line: the tables that the session's lines make, then cells, locals and scripts, then events, as the numbers
 -- that a run takes. A line for which there is no room is a fault of the file.
-use Rattle.std.specs.Prelude.{Bool, List, [], ◌∷◌, ◌++◌, ℕ, zero, suc, pred, ◌+◌, ◌-◌, ◌*◌, leb, ltb, eqb, length, get_or, drop, set, replicate}
+use Rattle.std.specs.Prelude.{List, [], ◌∷◌, ◌++◌, ℕ, suc, pred, ◌+◌, ◌-◌, ◌*◌, leb, ltb, eqb, length, get_or, drop, set, replicate}
 use Rattle.laws.specs.Choose.{choose, ◌and◌}
 use Rattle.rules.specs.Numbers.{max_number, within}
 use Rattle.rules.specs.Machine.{unstarted}

@@ -19,7 +19,7 @@ use Rattle.rules.specs.Machine.{Slot, Tables, unstarted, task_of, slot_of, is_ta
 use Rattle.rules.specs.Agreement.{Agrees, is_ready_task}
 use Rattle.rules.specs.Semaphore.{served_place, ahead, insert_at, serving_order, requeued, remove_at}
 use Rattle.rules.specs.Calls.{any_caller, still_waiting, ticked_slot, step}
-use Rattle.rules.specs.Runs.{Request, after, answers}
+use Rattle.rules.specs.Runs.{Request, after}
 use Rattle.rules.specs.Promises.{Refusal, IsRefusal, listed, is_in, SomeGives, NextIs, sequence_after, LeastBehind, FirstOfLeast, behind, NeverAgain}
 use Rattle.rules.specs.Fits.{call_fits, calls_fit}
 use Rattle.rules.proofs.Refusals.{refusal_keeps}

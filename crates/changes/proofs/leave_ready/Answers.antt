@@ -1,5 +1,4 @@
 use mathlib.Core.Path.{refl}
-use Prim.Native.Nat.{◌-◌}
 use native.Mathlib.Omega.{arith}
 use Rattle.words.proofs.WordsInBytes.{Bytes}
 use Rattle.changes.proofs.Leaving.{closing_none, closing_more, closing_all}

@@ -1,4 +1,3 @@
-use Prim.Native.Nat.{◌-◌}
 use native.Mathlib.Omega.{arith}
 use Rattle.words.proofs.WordsInBytes.{Bytes}
 use Rattle.changes.proofs.Leaving.{place_begun, place_found, place_more, place_none}

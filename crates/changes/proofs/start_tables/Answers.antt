@@ -1,4 +1,3 @@
-use Prim.Native.Nat.{◌-◌}
 use native.Mathlib.Omega.{arith}
 use Rattle.changes.proofs.PutWakeStart.{started_more, started_all}
 use Rattle.changes.proofs.start_tables.Goals as goal

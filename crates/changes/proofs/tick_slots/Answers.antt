@@ -1,4 +1,3 @@
-use Prim.Native.Nat.{◌-◌}
 use native.Mathlib.Omega.{arith}
 use Rattle.words.proofs.WordsInBytes.{Bytes}
 use Rattle.changes.proofs.TickSlots.{kept_more, kept_all, sized, few_slots, record_queues}

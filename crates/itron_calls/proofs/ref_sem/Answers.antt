@@ -11,7 +11,7 @@ use mir.ValLaws.{to_z_pos}
 use borrow.Author.Tests.{not-true, not-false}
 use Rattle.laws.specs.Choose.{bit}
 use Rattle.laws.proofs.Choose.{if_yes, if_no}
-use Rattle.rules.specs.Machine.{next, slot_named}
+use Rattle.rules.specs.Machine.{slot_named}
 use Rattle.tables.specs.declared.Head.{Head}
 use Rattle.tables.specs.Layout.{model_of, record_at}
 use Rattle.calls.specs.Agreeing.{Agreeing}

@@ -1,5 +1,4 @@
 use mathlib.Core.Path.{refl, sym, subst, ◌∙◌}
-use Prim.Native.Nat.{◌-◌}
 use native.Mathlib.Omega.{arith}
 use Rattle.encoding.specs.Rows.{scripts_of}
 use Rattle.encoding.specs.Laid.{memory}

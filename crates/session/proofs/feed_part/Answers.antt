@@ -1,4 +1,3 @@
-use Prim.Native.Nat.{◌-◌}
 use native.Mathlib.Omega.{arith}
 use Rattle.session.specs.Kept.{Kept, keeps}
 use Rattle.session.proofs.Feeding.{underway_none, underway_more, fed_is, taken_none, taken_full}

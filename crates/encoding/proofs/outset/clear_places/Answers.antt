@@ -1,4 +1,4 @@
-use Rattle.std.proofs.Common.{◌-◌, refl, arith, length-set}
+use Rattle.std.proofs.Common.{refl, arith, length-set}
 use Rattle.encoding.proofs.Clearing.{clearing_none, clearing_more, cleared, cleared_short}
 use Rattle.encoding.proofs.outset.clear_places.Goals as goal
 

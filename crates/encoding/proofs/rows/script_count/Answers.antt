@@ -1,4 +1,4 @@
-use Rattle.std.proofs.Common.{◌-◌, arith}
+use Rattle.std.proofs.Common.{arith}
 use Rattle.encoding.specs.Rows.{rows_of}
 use Rattle.encoding.proofs.Scripts.{row_at_lem, no_row_lem, passing_none, passing_script, passing_other, passing_all}
 use Rattle.encoding.proofs.rows.script_count.Goals.{else-row-eq-SCRIPT, then-row-eq-SCRIPT}

@@ -1,4 +1,4 @@
-use Rattle.std.proofs.Common.{◌+◌, ◌-◌, sym, ◌∙◌, arith}
+use Rattle.std.proofs.Common.{sym, ◌∙◌, arith}
 use Rattle.encoding.specs.Rows.{rows_of}
 use Rattle.encoding.proofs.Scripts.{row_at_lem, no_row_lem, length_rows, sought_none, script_none, script_found, sought_script, sought_other}
 use Rattle.encoding.proofs.rows.script_of.Goals.{else-row-eq-SCRIPT, then-row-eq-SCRIPT+else-row-q}

@@ -1,4 +1,4 @@
-use Rattle.std.proofs.Common.{◌≡◌, ◌+◌, ◌-◌, sym, refl, ◌∙◌, arith}
+use Rattle.std.proofs.Common.{◌≡◌, sym, refl, ◌∙◌, arith}
 use Rattle.encoding.specs.Rows.{rows_of}
 use Rattle.encoding.proofs.Scripts.{row_at_lem, no_row_lem, length_rows, sections_stop, sections_end, section_none, section_found, section_passed, section_other}
 use Rattle.encoding.proofs.rows.section_of.Goals.{else-row-eq-SECTION, then-row-eq-SECTION+else-passed-k}

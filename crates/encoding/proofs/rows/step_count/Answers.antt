@@ -1,4 +1,4 @@
-use Rattle.std.proofs.Common.{◌-◌, sym, ◌∙◌, arith}
+use Rattle.std.proofs.Common.{sym, ◌∙◌, arith}
 use Rattle.encoding.specs.Rows.{rows_of}
 use Rattle.encoding.proofs.Scripts.{row_at_lem, no_row_lem, count_stops, count_more, count_ends}
 use Rattle.encoding.proofs.rows.step_count.Goals as goal

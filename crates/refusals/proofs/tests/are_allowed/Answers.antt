@@ -1,6 +1,6 @@
 use mathlib.Core.Path.{refl, sym, ap, ◌∙◌}
 use native.Mathlib.Omega.{arith}
-use Prim.Native.Nat.{◌-◌, ◌≤◌}
+use Prim.Native.Nat.{◌≤◌}
 use borrow.Author.Tests.{not-true, not-false}
 use Rattle.sections.specs.Refusals.{is_allowed}
 use Rattle.encoding.specs.Rows.{scripts_of}

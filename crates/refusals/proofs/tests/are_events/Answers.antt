@@ -1,6 +1,6 @@
 use mathlib.Core.Path.{refl}
 use native.Mathlib.Omega.{arith}
-use Prim.Native.Nat.{◌-◌, ◌≤◌}
+use Prim.Native.Nat.{◌≤◌}
 use lib.ListN.{drop}
 use Rattle.sections.specs.Refusals.{is_event}
 use Rattle.encoding.proofs.Reading.{size_is, size_few_at, event_is, read_breaks, read_more, read_all}

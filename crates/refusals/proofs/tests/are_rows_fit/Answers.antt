@@ -1,7 +1,5 @@
 use mathlib.Core.Path.{sym, ◌∙◌}
 use native.Mathlib.Omega.{arith}
-use Prim.Native.Nat.{◌-◌}
-use mathlib.Core.Bool.{true}
 use borrow.Author.Tests.{not-true, not-false}
 use Rattle.laws.proofs.All.{all_none, all_more}
 use Rattle.refusals.proofs.Testing.{rows_cut, rows_fail, rows_fit_lem}

@@ -1,6 +1,5 @@
 use mathlib.Core.Path.{refl, sym, ◌∙◌}
 use native.Mathlib.Omega.{arith}
-use Prim.Native.Nat.{◌-◌}
 use borrow.Author.Tests.{not-true, not-false}
 use Rattle.refusals.specs.Tests.{is_short}
 use Rattle.refusals.proofs.Testing.{scans_scripts, scan_fails, scan_more, scan_all}

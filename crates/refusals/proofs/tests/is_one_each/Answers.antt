@@ -1,5 +1,4 @@
 use native.Mathlib.Omega.{arith}
-use Prim.Native.Nat.{◌+◌, ◌-◌}
 use Rattle.sections.specs.Refusals.{one_script_each}
 use Rattle.encoding.specs.Rows.{rows_of}
 use Rattle.encoding.proofs.Scripts.{row_at_lem, no_row_lem}

@@ -1,7 +1,7 @@
 -- `report::lines::put_behind` meets its contract: a byte, and behind it the part of the number's bytes that is its digits.
 use mathlib.Core.List.{List, ◌∷◌, []}
 use mathlib.Core.Path.{ap, ◌∙◌}
-use Prim.Native.Nat.{ℕ, ◌+◌, ◌-◌, ◌<◌}
+use Prim.Native.Nat.{ℕ, ◌+◌, ◌<◌}
 use native.Mathlib.Omega.{arith}
 use lib.ListN.{length, set, length-set}
 use Rattle.line.specs.Print.{decimal}

@@ -1,4 +1,4 @@
-use Rattle.std.proofs.Common.{◌≡◌, ℕ, ◌-◌, ◌<◌, ◌≤◌, true, List, length, get_or, drop, sym, refl, subst, arith, length-drop, drop_of_length-le}
+use Rattle.std.proofs.Common.{◌≡◌, ℕ, ◌<◌, ◌≤◌, true, List, length, get_or, drop, sym, refl, subst, arith, length-drop, drop_of_length-le}
 use Rattle.sections.specs.Scripts.{index_of}
 use Rattle.sections.specs.Run.{run_from}
 use Rattle.encoding.specs.Rows.{scripts_of}

@@ -1,4 +1,4 @@
-use Rattle.std.proofs.Common.{ℕ, ◌-◌, sym, refl, ap, ◌∙◌, arith}
+use Rattle.std.proofs.Common.{ℕ, sym, refl, ap, ◌∙◌, arith}
 use Rattle.rules.specs.Machine.{Tables}
 use Rattle.runner.specs.State.{told}
 use Rattle.encoding.proofs.Scripts.{row_at_lem, no_row_lem}

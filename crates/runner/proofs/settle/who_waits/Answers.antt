@@ -1,4 +1,4 @@
-use Rattle.std.proofs.Common.{◌-◌, false, get_or, replicate, arith, length-set}
+use Rattle.std.proofs.Common.{false, get_or, replicate, arith, length-set}
 use Rattle.rules.specs.Machine.{no_task, waits}
 use Rattle.laws.proofs.Mapped.{filled_none, filled_more}
 use Rattle.runner.proofs.Telling.{flag_read}

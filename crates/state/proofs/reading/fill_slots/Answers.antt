@@ -1,5 +1,4 @@
 use mathlib.Core.Bool.{false≢true}
-use Prim.Native.Nat.{◌-◌}
 use native.Mathlib.Omega.{arith}
 use Rattle.state.proofs.Editions.{numbers_within}
 use Rattle.state.proofs.Filling.{rest_none, rest_more, no_length, too_long, beyond, slots_none, slots_more, slots_all}

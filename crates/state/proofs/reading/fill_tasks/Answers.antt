@@ -1,4 +1,3 @@
-use Prim.Native.Nat.{◌-◌}
 use native.Mathlib.Omega.{arith}
 use Rattle.state.proofs.Filling.{tasks_none, tasks_more, tasks_all}
 use Rattle.state.proofs.reading.fill_tasks.Goals as goal

@@ -1,4 +1,3 @@
-use Prim.Native.Nat.{◌-◌}
 use native.Mathlib.Omega.{arith}
 use Rattle.text.specs.Feeding.{lent}
 use Rattle.text.proofs.Bytes.{underway_none, underway_more, underway_fault, underway_over}
