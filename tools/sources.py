@@ -54,24 +54,23 @@ def sum_of(*names):
 
 
 def noted(name):
-    """The line of a crate: the sum of its sources, and of the library or the program that stands in its out/."""
-    made = [ROOT / "crates" / name / "out" / path for path in (f"rlib/{name}.rlib/format", name)]
-    return f"{name} {sum_of(name)} {hashlib.sha256(b''.join(path.read_bytes() for path in made if path.is_file())).hexdigest()}"
-
-
-def is_by_rt_check(name):
-    """Whether the library in its out/ is one that rt check or rt lib made, which know by themselves whether it is right."""
-    return (ROOT / "crates" / name / "out/rlib/stamp").exists()
+    """The line of a crate in whose out/ stands a library or a program by rt ci: the sums of its sources and of that. rt check and rt lib leave a
+    stamp beside a library, and know by themselves whether it is right."""
+    out = ROOT / "crates" / name / "out"
+    made = [path for path in (out / f"rlib/{name}.rlib/format", out / name) if path.is_file()]
+    if not made or (out / "rlib/stamp").exists():
+        return None
+    return f"{name} {sum_of(name)} {hashlib.sha256(b''.join(path.read_bytes() for path in made)).hexdigest()}"
 
 
 def note():
     NOTED.parent.mkdir(exist_ok=True)
-    NOTED.write_text("".join(f"{noted(name)}\n" for name in sorted(uses()) if not is_by_rt_check(name)))
+    NOTED.write_text("".join(f"{line}\n" for line in map(noted, sorted(uses())) if line))
 
 
 def is_noted(name):
     """Whether what stands in a crate's out/ is what rt ci made there of just these sources."""
-    return NOTED.exists() and not is_by_rt_check(name) and noted(name) in NOTED.read_text().splitlines()
+    return NOTED.exists() and noted(name) in NOTED.read_text().splitlines()
 
 
 if __name__ == "__main__":

@@ -40,7 +40,7 @@ def main():
     text = log.read_text()
     verdicts = [line for line in text.splitlines() if line.startswith("logic=proved")]
     if status or not verdicts or any("foreign=" in line for line in verdicts):
-        sys.exit(f"{text}{name} is not proved and compiled")
+        sys.exit(f"{text}\n{name} is not proved, or not compiled")
     print(f"{name} compiled for C", file=sys.stderr)
 
 
