@@ -1,7 +1,8 @@
 """The crates of crates.txt and sums over their sources, by which it is known whether something made of them is still right.
 
-sources.py NAME..     prints a sum over the sources of these crates and of all below them, and over rt's version
-sources.py --note     to be called when rt ci has passed: notes in build/proved what it proved and made, which is then taken as it is"""
+sources.py [NAME..]        prints a sum over the sources of these crates, or of all, and of all below them, and over rt's version
+sources.py --note [SUM]    to be called when rt ci has passed: notes in build/proved what it proved and made, which is then taken as it is;
+                           nothing if SUM, printed before rt ci began, is no longer the sum over all"""
 import functools
 import hashlib
 import subprocess
@@ -74,7 +75,8 @@ def is_noted(name):
 
 
 if __name__ == "__main__":
-    if sys.argv[1:] == ["--note"]:
+    flag, *rest = sys.argv[1:] or [""]
+    if flag != "--note":
+        print(sum_of(*(sys.argv[1:] or uses())))
+    elif rest in ([], [sum_of(*uses())]):
         note()
-    else:
-        print(sum_of(*sys.argv[1:]))
