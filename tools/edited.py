@@ -1,4 +1,6 @@
-"""Must-fail edits, and what a check says of a crate's copy with an edit."""
+"""Must-fail edits, and what a check says of a crate's copy with an edit.
+
+edited.py CRATE/LABEL..      prints it, of these edits"""
 import concurrent.futures
 import hashlib
 import os
@@ -6,6 +8,7 @@ import pathlib
 import queue
 import shutil
 import subprocess
+import sys
 import tempfile
 
 from sources import PARTS, ROOT, below, sum_of, uses
@@ -89,3 +92,8 @@ def texts(edits):
             (pathlib.Path(made) / str(lane)).mkdir()
         with concurrent.futures.ThreadPoolExecutor(lanes) as pool:
             return list(pool.map(text, edits))
+
+
+if __name__ == "__main__":
+    for _, said in texts([Edit(ROOT / "crates/{}/must-fail/{}.edit".format(*name.split("/"))) for name in sys.argv[1:]]):
+        print(said, end="")

@@ -57,7 +57,8 @@ def progress(lines, log, order):
 def main():
     path, folder, *command = sys.argv[1:]
     order = list(uses()) if command[1] == "all" else in_order(pathlib.Path(folder).name)
-    tell(f"Proving {len(order)} crates: some four minutes the first time, on two cores; later only what has changed.")
+    minutes = -(-len(order) // 3)
+    tell(f"Proving {len(order)} crates: some {minutes} minutes the first time, on four cores; later only what has changed.")
     with open(path, "w+") as log:
         rt = subprocess.Popen(command, cwd=ROOT / folder, stdin=subprocess.DEVNULL, stdout=subprocess.PIPE, stderr=subprocess.STDOUT, text=True)
         runs = progress(rt.stdout, log, order)
