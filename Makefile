@@ -9,9 +9,13 @@ check:
 	@mkdir -p build
 	@python3 tools/prove.py build/check.log . rt all check
 
-# Brings every crate into the formatter's layout.
+# Brings every crate into the formatter's layout. What rt notes of the words of must-fail edits is not shown.
 fmt:
-	@for each in crates/*; do (cd "$$each" && rt fmt) || exit 1; done
+	@mkdir -p build
+	@for each in crates/*; do \
+	  (cd "$$each" && rt fmt) >build/fmt.log 2>&1; status=$$?; \
+	  grep -v 'has a line that is not read' build/fmt.log; [ $$status -eq 0 ] || exit $$status; \
+	done
 
 # The programs: a session, from the proved crate mast_session, runs of guarded sections, and state files.
 build: build/mast-session build/mast-sections build/mast-state
