@@ -7,18 +7,21 @@ test:
 # Proves what has changed, and what uses it.
 check:
 	@mkdir -p build
-	@python3 tools/prove.py build/check.log rt check
+	@python3 tools/prove.py build/check.log . rt all check
 
+# Brings every crate into the formatter's layout. What rt notes of the words of must-fail edits is not shown.
 fmt:
-	@rt fmt
+	@mkdir -p build
+	@for each in crates/*; do \
+	  (cd "$$each" && rt fmt) >build/fmt.log 2>&1; status=$$?; \
+	  grep -v 'has a line that is not read' build/fmt.log; [ $$status -eq 0 ] || exit $$status; \
+	done
 
 # The programs: a session, from the proved crate mast_session, runs of guarded sections, and state files.
 build: build/mast-session build/mast-sections build/mast-state
 
 build/mast-session: FORCE
-	@mkdir -p build
-	@python3 tools/prove.py build/session.log rt check mast_session
-	@cmp -s target/bin/mast_session $@ || cp target/bin/mast_session $@
+	@python3 tools/program.py mast_session $@
 
 # The sessions of examples/, or the one that SESSION names, each line with its answer.
 run: build/mast-session
@@ -30,9 +33,7 @@ endif
 
 # The program that runs guarded sections from a text, from the proved crate mast_sections.
 build/mast-sections: FORCE
-	@mkdir -p build
-	@python3 tools/prove.py build/sections.log rt check mast_sections
-	@cmp -s target/bin/mast_sections $@ || cp target/bin/mast_sections $@
+	@python3 tools/program.py mast_sections $@
 
 # The runs of examples/, or the one that FILE names.
 .PHONY: sections
@@ -45,9 +46,7 @@ endif
 
 # The program that saves, shows and resumes state files, from the proved crate mast_state.
 build/mast-state: FORCE
-	@mkdir -p build
-	@python3 tools/prove.py build/state.log rt check mast_state
-	@cmp -s target/bin/mast_state $@ || cp target/bin/mast_state $@
+	@python3 tools/program.py mast_state $@
 
 # A tag's morning saved, shown, and resumed in the evening.
 .PHONY: state

@@ -3,7 +3,7 @@ import re
 
 HEAD = re.compile(
     r"(?P<words>(?:(?:pub|abbrev|unfoldable) )*)"
-    r"(?:(?P<sort>record|data|ruleset) (?P<it>\S+)|(?P<name>[^\s(){}]+) :(?= |$))"
+    r"(?:(?P<sort>record|data|ruleset) (?P<it>\S+)|(?P<name>[^\s(){}]+) :(?= |$)|infix[lr]? \d+ (?P<fixed>\S+))"
 )
 
 
@@ -11,7 +11,8 @@ class Declaration:
     """Its words (`pub`, `abbrev`, ..), name, statement and body; the modules around it, with their parameters, open the statement."""
 
     def __init__(self, depth, head, around):
-        self.depth, self.words, self.name = depth, head["words"] + (head["sort"] or ""), head["it"] or head["name"]
+        self.depth, self.words = depth, head["words"] + (head["sort"] or "")
+        self.name = head["it"] or head["name"] or f"infix {head['fixed']}"
         self.statement, self.body = [*around, head.string], []
 
     def is_theorem(self):

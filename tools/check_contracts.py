@@ -1,47 +1,63 @@
 """Every `pub fn` of the libraries has an `ensures` that says something, and no entry point on lent tables has a `requires`.
 
 Entry points are the public functions of the crates named in ENTRIES, outside of their private modules, and every
-`extern "C"` function. An `ensures` says nothing if it speaks of the result alone, as `r ≡ r`, or if each of its parts is
-an equation with the same two sides.
+exported function. An `ensures` says nothing if it speaks of the result alone, as `result.status ≡ result.value`, or if
+each fact that it states, behind its premises, is of the same two sides.
 """
 import pathlib
 import re
 import sys
 
-from rt_source import functions
+from rt_source import closed, functions
 
-ENTRIES = {"manager", "capi", "session", "state", "itron_calls"}
-# Words that name neither a definition nor an argument.
-EMPTY = {"true", "false", "refl", "tt", "λ"}
+# records and records_c are for callers that keep their own records: these too may lend whatever they have.
+ENTRIES = {"manager", "capi", "session", "state", "itron_calls", "records", "records_c"}
+# Words that name neither a definition nor an argument, and those that only pass the result's value on.
+EMPTY = {"result", "true", "false", "refl", "tt", "λ", "let", "in", "emp", "IfOk", "IfErr", "IfSome", "OnOk", "OnErr", "OnSome", "IfNone"}
+# Relations that anything has to itself.
+SELF = "≡|≤|↔|=="
 
 
 def says_nothing(ensures):
-    bound = set(re.findall(r"λ\s+([\w ]+)\.", ensures))
+    bound = set(re.findall(r"λ\s+([\w ]+)\.", ensures)) | set(re.findall(r"\blet (\w+) =", ensures))
     text = re.sub(r"λ\s+[\w ]+\.|[⌜⌝]", " ", ensures)
     words = re.findall(r"(?<![\w.])(?<! \.)[^\W_][\w·-]*", text)
     if not set(words) - EMPTY - {name for names in bound for name in names.split()}:
         return True
-    return all(same_sides(part) for part in parts(text))
+    return all(map(is_empty, parts(text)))
 
 
-def parts(text):
-    """What `×` joins, outside of brackets."""
-    depth, found = 0, [""]
-    for letter in text:
-        depth += (letter in "([{") - (letter in ")]}")
-        if letter == "×" and depth == 0:
+def split(text, sign):
+    """The text at each sign, a pattern, outside of brackets."""
+    depth, found, at = 0, [""], 0
+    while at < len(text):
+        here = re.compile(sign).match(text, at) if depth == 0 else None
+        depth += (text[at] in "([{") - (text[at] in ")]}")
+        if here:
             found.append("")
         else:
-            found[-1] += letter
+            found[-1] += text[at]
+        at = here.end() if here else at + 1
     return found
 
 
-def same_sides(part):
-    part = " ".join(part.split())
-    while part.startswith("(") and part.endswith(")"):
-        part = part[1:-1].strip()
-    left, sign, right = part.partition("≡")
-    return bool(sign) and left.strip() == right.strip()
+def is_bracketed(text):
+    return text.startswith("(") and closed(text, 0) == len(text)
+
+
+def parts(text):
+    """The facts that `×` or `∗` joins, without the names `(x : A)` that they are of."""
+    found = [part.strip() for part in split(text, "[×∗]")]
+    return [part for part in found if not is_bracketed(part) or not re.match(r"\([\w\s]+ : ", part)]
+
+
+def is_empty(part):
+    """Whether a fact, behind what it has for premises, has the same two sides."""
+    part = " ".join(split(split(part, "→")[-1], r"\bin\b")[-1].split())
+    if is_bracketed(part):
+        return all(map(is_empty, parts(part[1:-1])))
+    sides = [side.strip() for side in split(part, SELF)]
+    return len(sides) == 2 and sides[0] == sides[1]
 
 
 def is_open(path):

@@ -1,9 +1,10 @@
 """Every must-fail edit was refused by a fact that no longer holds, and every entry point has an edit.
 
-check_edits.py [CRATE..]     reads the logs that `rt must-fail` or `rt ci` left, of these crates or of all
+check_edits.py LOG [CRATE..]      LOG is what `rt ci` or `rt must-fail` printed; of these crates or of all
 
-An edit shows nothing if all its errors are of these kinds:
-  unfit   the proof file no longer fits the code, as where a need or a field is gone;
+LOG has one line for each edit, cut. Where that doesn't settle what refused it, tools/edited.py checks a copy of the crate with the edit, and
+keeps what that says in build/edits/CRATE/LABEL.log. An edit shows nothing if all its errors are of these kinds:
+  unfit   the proof file no longer fits the code, as where a goal or a field is gone;
   quoted  a proof quotes the text of a definition that the edit changed: a true restatement would be refused as well.
 """
 import pathlib
@@ -11,43 +12,34 @@ import re
 import sys
 
 from antt_source import declarations
+from edited import Edit, texts
 from rt_source import functions, uncommented
+from sources import ROOT
 
-top = pathlib.Path(__file__).resolve().parent.parent
 # Crates with entry points: each has an edit at least.
 ENTRIES = ("manager", "capi", "session", "playing", "mast_session", "runner", "capi_run", "mast_sections", "state", "capi_state",
            "mast_state", "itron_calls", "capi_itron")
 # Crates in which each public function has an edit: one inside it, or one whose first lines have its name in backticks.
 EACH_FUNCTION = ("manager",)
 
+# A line of rt for an edit: what became of it, whether only for a name that is gone or a limit, and the first error, of 160 letters.
+TRIED = re.compile(r"rt: must-fail (\w+)/(\S+)\.edit: (refused, as it must be|BAD EDIT|NOT REFUSED|NOT TRIED)( \(only [^)]*\))?(?:: (.*))?$")
+NOT_PROVED = re.compile(r"note: \S+:\d+:\d+: it is not proved that ")
+# The first words of an error that are a fact whatever follows.
+FAILS = re.compile(r"\S+:\d+:\d+: error: `[^`]+`: `(?:search`: no proof of|omega`: the goal does not follow) ")
+
 ERROR = re.compile(r"\S+:\d+:\d+: error: ")
-FOLLOWS = re.compile(r"`[^`]+` was not admitted ")
-UNFIT = re.compile(r"that can be named from here|has no (?:field|member|constructor|clause|case) |not in scope|takes? \d+ arguments?")
-DIFFER = re.compile(r"the two types .*?where one has `(.*?)`.*?the other has `(.*?)`", re.S)
+FOLLOWS = re.compile(r"\d+ declarations? that depends? on `[^`]+`, which was |`[^`]+` was not admitted ")
+# Of a proof that no longer fits: what it names is gone, or what it rewrites stands no longer where it did.
+UNFIT = re.compile(r"that can be named from here|has no (?:field|member|constructor|clause|case|`)|not in scope|takes? \d+ arguments?"
+                   r"|`rw`: no occurrence of ")
+DIFFER = re.compile(r"the two (?:types|sides) .*?where one has `(.*?)`.*?the other has `(.*?)`", re.S)
+COMPUTED = re.compile(r"computed as far as they go, the two (?:types|sides) (?:(?:first )?differ|are) |neither could be computed")
+SAME = re.compile(r"the first \d+ bytes of the two (?:types|sides) are identical")
 # A place in the code, as the proof files name it: the code between two such places has another shape.
-PLACE = re.compile(r"\bLts\.(?:After|Start|Need)\b")
-
-
-class Edit:
-    """One file of must-fail/: its name and words, and the replacements (file, old, new)."""
-
-    def __init__(self, path):
-        self.crate, self.label = path.parts[-3], path.stem
-        self.words, self.changes, file = "", [], None
-        for line in path.read_text().splitlines():
-            key, _, rest = line.partition(": ")
-            if key == "file":
-                file = rest
-            elif key == "old":
-                self.changes.append((file, rest))
-            elif not line.startswith("new:"):
-                self.words += f" {line}"
-
-    def name(self):
-        return f"{self.crate}/{self.label}"
-
-    def log(self):
-        return top / "target/must-fail" / self.crate / self.label / ".log"
+PLACE = re.compile(r"\bLts\.\w")
+# The proof of a function, in a folder of its own; any other file of proofs/ has lemmas.
+OF_FUNCTION = re.compile(r"(?:\./)?proofs/(?:[^/]+/)*[+a-z][^/]*/(?:Proof|Invariants|Answers)\.antt:")
 
 
 def tokens(text):
@@ -56,25 +48,30 @@ def tokens(text):
 
 def changed_definitions(edit):
     """The definitions of specs/ whose text the edit changes, and those of the crate that are made of them."""
-    every = [d for p in sorted((top / f"crates/{edit.crate}/specs").glob("**/*.antt")) for d in declarations(p.read_text())]
-    olds = [" ".join(old.split()) for file, old in edit.changes if file.startswith("specs/") and not old.startswith("use ")]
+    every = [d for p in sorted((ROOT / f"crates/{edit.crate}/specs").glob("**/*.antt")) for d in declarations(p.read_text())]
+    olds = [" ".join(old.split()) for file, old, _ in edit.changes if file.startswith("specs/") and not old.startswith("use ")]
     names = {d.name for d in every for old in olds if old in " ".join(" ".join(d.statement + d.body).split())}
     grown = True
     while grown:
-        more = {d.name for d in every if names & tokens(d.whole())} - names
+        words = names | {name.strip("◌") for name in names}
+        more = {d.name for d in every if words & tokens(d.whole())} - names
         grown, names = bool(more), names | more
     return names
 
 
-def errors(log):
-    """The errors of a log that are not mere consequences of others; a function without a proof file has its error in a note."""
-    records = re.split(r"^(?=\S+:\d+:\d+: (?:error|note): |note: |fn |help: |logic)", log, flags=re.M)
+def errors(text):
+    """The errors of a check that are not mere consequences of others; a function without a proof file has its error in a note, which may be
+    a consequence where a lemma was refused."""
+    records = re.split(r"^(?=\S+:\d+:\d+: (?:error|note): |note: |fn |help: |logic)", text, flags=re.M)
+    found, open_goals = [], []
     for record in records:
-        found = ERROR.match(record)
-        if found and not FOLLOWS.match(re.sub(r"^`[^`]*`: ", "", record[found.end():])):
-            yield record
+        at = ERROR.match(record)
+        if at and not FOLLOWS.match(re.sub(r"^`[^`]*`: ", "", record[at.end():])):
+            found.append(record)
         elif record.startswith("note: ") and "it is not proved that" in record:
-            yield record
+            open_goals.append(record)
+    of_lemmas = [record for record in found if "proofs/" in record.split(":")[0] and not OF_FUNCTION.match(record)]
+    return found if of_lemmas else found + open_goals
 
 
 def kind(error, changed):
@@ -83,33 +80,56 @@ def kind(error, changed):
     ends = DIFFER.search(error)
     if ends and all(map(PLACE.search, ends.groups())):
         return "unfit"
-    if ends and "computed as far as they go" not in error and "neither could be computed" not in error:
+    if SAME.search(error):
+        return "quoted"
+    if ends and not COMPUTED.search(error):
         heads = {end.strip(" (").split()[0].split(".")[-1] for end in ends.groups() if end.strip(" (")}
         if heads & changed:
             return "quoted"
     return "fact"
 
 
-def verdict(edit):
+def tried(log):
+    """What became of each edit, by its name."""
+    lines = (TRIED.match(line) for line in log.splitlines())
+    return {f"{found[1]}/{found[2]}": found.groups()[2:] for found in lines if found}
+
+
+def is_settled(edit, said):
+    """Whether the first error is a fact by itself: an open goal, where only code was changed, or a goal that a tactic can't prove."""
+    of_code = all(file.startswith("src/") for file, *_ in edit.changes)
+    return bool(of_code and NOT_PROVED.match(said) or FAILS.match(said) and not UNFIT.search(said))
+
+
+def told(edit, line):
+    """What a line of the log has against an edit; None if it is refused by a fact, and True if that isn't settled."""
+    if line is None:
+        return "has no line in the log: run `rt ci`, or `rt must-fail` in its place"
+    word, only, said = line
+    if word != "refused, as it must be":
+        return f"is a {word}: {said}" if word == "BAD EDIT" else f"is {word}: {said}"
+    if only:
+        return f"was refused{only.split(', so ')[0]}): {said}"
+    return None if said and is_settled(edit, said) else True
+
+
+def verdict(edit, text):
     """None for an edit that was refused by a fact, else what is wrong with it."""
-    if not edit.log().is_file():
-        return "has no log: run `rt must-fail` or `rt ci` first"
-    found, changed = list(errors(edit.log().read_text())), changed_definitions(edit)
+    found, changed = errors(text), changed_definitions(edit)
     kinds = [kind(error, changed) for error in found]
     if "fact" in kinds:
         return None
     if not found:
         return "was refused with no error that can be read"
-    said = " ".join(found[0].split())
-    place = said.replace(f"{edit.log().parent}/", "")[:160]
+    place = " ".join(found[0].split())[:160]
     if "quoted" in kinds:
-        return f"was refused for its text alone: a proof quotes {', '.join(sorted(changed))}: {place}"
+        return f"was refused for its text alone: a proof quotes {', '.join(sorted(changed)) or 'what it proves'}: {place}"
     return f"was refused because the proof file no longer fits the code: {place}"
 
 
 def spans(crate):
     """(name, text) of each public function, body included."""
-    for path in sorted((top / f"crates/{crate}/src").glob("**/*.rt")):
+    for path in sorted((ROOT / f"crates/{crate}/src").glob("**/*.rt")):
         text = uncommented(path.read_text())
         for function in functions(text):
             if function.public:
@@ -126,20 +146,24 @@ def uncovered(edits):
     for crate in EACH_FUNCTION:
         own = [edit for edit in edits if edit.crate == crate]
         for name, text in spans(crate):
-            inside = any(old in text for edit in own for file, old in edit.changes if file.startswith("src/"))
+            inside = any(old in text for edit in own for file, old, _ in edit.changes if file.startswith("src/"))
             if not inside and not any(f"`{name}`" in edit.words for edit in own):
                 yield f"{crate}::{name} has no must-fail edit"
 
 
 def main():
-    wanted = sys.argv[1:]
-    edits = [Edit(path) for path in sorted(top.glob("crates/*/must-fail/*.edit"))]
+    log, *wanted = sys.argv[1:]
+    edits = [Edit(path) for path in sorted(ROOT.glob("crates/*/must-fail/*.edit"))]
     judged = [edit for edit in edits if not wanted or edit.crate in wanted]
-    faults = [f"{edit.name()} {said}" for edit in judged if (said := verdict(edit))]
+    lines = tried(pathlib.Path(log).read_text())
+    said = {edit: told(edit, lines.get(edit.name())) for edit in judged}
+    unsettled = [edit for edit in judged if said[edit] is True]
+    said |= {edit: verdict(edit, text) for edit, text in texts(unsettled)}
+    faults = [f"{edit.name()} {said[edit]}" for edit in judged if said[edit]]
     without = [] if wanted else list(uncovered(edits))
     for line in faults + without:
         print(line)
-    print(f"{len(judged)} must-fail edits, {len(judged) - len(faults)} refused by a fact")
+    print(f"{len(judged)} must-fail edits, {len(judged) - len(faults)} refused by a fact, {len(unsettled)} of them looked at whole")
     sys.exit(1 if faults or without or not judged else 0)
 
 

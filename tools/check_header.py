@@ -15,8 +15,8 @@ import tempfile
 top = pathlib.Path(__file__).resolve().parent.parent
 NUMBERS = top / "crates/rules/specs/Numbers.antt"
 SPECS = {name: (top / f"crates/{name}/specs") for name in ("rules", "tables", "sections", "encoding", "state", "mapping", "itron")}
-# No call takes a generation or the ticks of the standard limit: these have no macro. Timeouts are looked up in waitOf.
-UNNAMED = {"maxGeneration", "standardLimit", "standardTimeout", "noTimeout"}
+# No call takes a generation or the ticks of the standard limit: these have no macro. Timeouts are looked up in wait_of.
+UNNAMED = {"max_generation", "standard_limit", "standard_timeout", "no_timeout"}
 
 
 # ---- the definitions
@@ -37,6 +37,11 @@ def number(name):
     if not re.fullmatch(r"[\d+*() -]+", text):
         sys.exit(f"{name} is no number: {text}")
     return eval(text)
+
+
+def tested(left):
+    """What stands before the number, in a test of a definition that `left`, a pattern, is equal to it."""
+    return rf"(?:eqb \(?{left}\)? |{left} == )"
 
 
 def literals(name, before=""):
@@ -65,16 +70,16 @@ def macros(header):
 def expected():
     """Name to number, by the definitions."""
     sized = {
-        "MAST_TABLES_LENGTH": number("tablesLength"),
-        "MAST_STATE_MAXIMUM": number("longestFile"),
-        "MAST_MAXIMUM_TASKS": number("maxTasks"),
-        "MAST_MAXIMUM_SLOTS": number("maxSlots"),
-        "MAST_MINIMUM_PRIORITY": int(re.search(r"within (\d+) maxPriority", body("startRefusal"))[1]),
-        "MAST_MAXIMUM_PRIORITY": number("maxPriority"),
-        "MAST_MAXIMUM_COUNT": number(re.search(r"(\w+)\s*$", body("classMaximum"))[1]),
+        "MAST_TABLES_LENGTH": number("tables_length"),
+        "MAST_STATE_MAXIMUM": number("longest_file"),
+        "MAST_MAXIMUM_TASKS": number("max_tasks"),
+        "MAST_MAXIMUM_SLOTS": number("max_slots"),
+        "MAST_MINIMUM_PRIORITY": int(re.search(r"within (\d+) max_priority", body("start_refusal"))[1]),
+        "MAST_MAXIMUM_PRIORITY": number("max_priority"),
+        "MAST_MAXIMUM_COUNT": number(re.search(r"(\w+)\s*$", body("class_maximum"))[1]),
     }
-    statuses = {f"MAST_{snake(name)}": number(name) for name in defined() if not name.startswith("max")}
-    binary, simple, ordered = (set(literals(n)) for n in ("isBinary", "isSimple", "byPriority"))
+    statuses = {f"MAST_{name.upper()}": number(name) for name in defined() if not name.startswith("max")}
+    binary, simple, ordered = (set(literals(n)) for n in ("is_binary", "is_simple", "by_priority"))
     inheriting = set(literals("inherits"))
     plain = set(literals("allowed")) - binary - simple
     (default,) = plain - ordered
@@ -90,27 +95,28 @@ def expected():
     }
     if not inheriting | binary | simple | ordered <= set(literals("allowed")):
         sys.exit("a class, an order or inheritance has attributes that create does not allow")
-    # waitOf: bit 0 of the options polls, so no other bit is an option
-    modulus, polls = literals("waitOf", r"options % ")[0], literals("waitOf", r"options % \d+\) ")[0]
+    # wait_of: bit 0 of the options polls, so no other bit is an option
+    modulus, polls = literals("wait_of", r"options % ")[0], literals("wait_of", tested(r"options % \d+"))[0]
     options = {"MAST_NO_WAIT": polls, "MAST_WAIT": (polls + 1) % modulus, "MAST_DEFAULT_OPTIONS": (polls + 1) % modulus}
     standard, _ = standard_wait()
-    timeouts = {"MAST_STANDARD_TIMEOUT": standard, "MAST_NO_TIMEOUT": number(re.search(r"eqb timeout (\w+)\) Forever", body("waitOf"))[1])}
+    timeouts = {"MAST_STANDARD_TIMEOUT": standard, "MAST_NO_TIMEOUT": number(re.search(tested("timeout") + r"(\w+)\) Forever", body("wait_of"))[1])}
     return {**sized, **statuses, **attributes, **options, **timeouts, **run()}
 
 
 def standard_wait():
     """The timeout that stands for the standard limit, and that limit in ticks."""
-    return [number(name) for name in re.search(r"eqb timeout (\w+)\) \(Ticks (\w+)\)", body("waitOf")).groups()]
+    return [number(name) for name in re.search(tested("timeout") + r"(\w+)\) \(Ticks (\w+)\)", body("wait_of")).groups()]
 
 
 def run():
     """The numbers of mast_run: kinds by the words of steps and calls, limits, and the room that is enough."""
-    kinds = {"SCRIPT": literals("beginsScript", r"eqb \(r \.kind\) ")[0], "SECTION": literals("beginsSection", r"eqb \(r \.kind\) ")[0]}
-    kinds |= {word.upper(): int(n) for n, word in re.findall(r"eqb \(r \.kind\) (\d+)\) \((\w+)", body("stepOf", "encoding"))}
-    events = {word.upper(): int(n) for n, word in re.findall(r"eqb kind (\d+)\) \((\w+)", body("callOf", "encoding"))}
-    events |= {"TURN": literals("eventAt", r"eqb \(getD ns 0 0\) ")[0], "TICK": max(literals("sizeOf", r"eqb kind "))}
-    sections, steps, cells = (literals("limitsFit", before)[0] for before in (r"\.sections\)\) ", r"\.steps\)\) ", r"\.cells\)\) "))
-    tasks, row = number("maxTasks"), only(set(literals("rowsOf", r"length ns / ")))
+    kind, chosen = tested(r"r\.kind"), r"(\d+)\) \((\w+)"
+    kinds = {"SCRIPT": literals("begins_script", kind)[0], "SECTION": literals("begins_section", kind)[0]}
+    kinds |= {word.upper(): int(n) for n, word in re.findall(kind + chosen, body("step_of", "encoding"))}
+    events = {word.upper(): int(n) for n, word in re.findall(tested("kind") + chosen, body("call_of", "encoding"))}
+    events |= {"TURN": literals("event_at", tested("slice_index ns 0"))[0], "TICK": max(literals("size_of", tested("kind")))}
+    sections, steps, cells = (literals("limits_fit", rf"\.{what}\) ")[0] for what in ("sections", "steps", "cells"))
+    tasks, row = number("max_tasks"), only(set(literals("rows_of", r"length ns / ")))
     return {
         **{f"MAST_{name}": n for name, n in kinds.items()},
         **{f"MAST_EVENT_{name}": n for name, n in events.items()},
@@ -118,7 +124,7 @@ def run():
         "MAST_MAXIMUM_SECTIONS": sections,
         "MAST_MAXIMUM_STEPS": steps,
         "MAST_MAXIMUM_CELLS": cells,
-        "MAST_LOCALS": literals("limitsFit", r"\.locals\)\) ")[0],
+        "MAST_LOCALS": literals("limits_fit", r"\.locals\) ")[0],
         "MAST_PLACES": 2 * tasks,
         "MAST_GRANTS": 1 + 2 * tasks * sections,
     }
@@ -132,21 +138,21 @@ def signed(text):
 
 def itron():
     """The numbers of mastclover_itron.h: a macro for each code that is defined."""
-    codes = re.findall(r"^e([A-Z]\w*) = (.*)", (SPECS["itron"] / "Codes.antt").read_text(), re.M)
-    tested, attributes, others = literals("attributesOf")
-    (other,) = set(literals("sematrAllowed", "eqb sematr ")) - {tested}
+    codes = re.findall(r"^e_(\w+) = (.*)", (SPECS["itron"] / "Codes.antt").read_text(), re.M)
+    first, attributes, others = literals("attributes_of")
+    (other,) = set(literals("sematr_allowed", tested("sematr"))) - {first}
     # the one whose Classic attributes are in the order of priorities
-    priority, fifo = (tested, other) if attributes in literals("byPriority") else (other, tested)
-    if {attributes, others} != set(literals("allowed")) - set(literals("isBinary")) - set(literals("isSimple")):
-        sys.exit("attributesOf gives others than those of counting semaphores")
+    priority, fifo = (first, other) if attributes in literals("by_priority") else (other, first)
+    if {attributes, others} != set(literals("allowed")) - set(literals("is_binary")) - set(literals("is_simple")):
+        sys.exit("attributes_of gives others than those of counting semaphores")
     return {
         **{f"MAST_E_{name.upper()}": signed(text) for name, text in codes},
-        "MAST_ITRON_ENTRIES": number("listLength"),
-        "MAST_ITRON_MAXIMUM_COUNT": number("greatestCount"),
+        "MAST_ITRON_ENTRIES": number("list_length"),
+        "MAST_ITRON_MAXIMUM_COUNT": number("greatest_count"),
         "MAST_TA_TFIFO": fifo,
         "MAST_TA_TPRI": priority,
-        "MAST_TMO_FEVR": signed(body("waiSem")),
-        "MAST_TMO_POL": signed(body("preqSem")),
+        "MAST_TMO_FEVR": signed(body("wai_sem")),
+        "MAST_TMO_POL": signed(body("preq_sem")),
     }
 
 
@@ -158,10 +164,6 @@ def only(numbers):
 def defined():
     names = re.findall(r"^(\w+) = \d+$", NUMBERS.read_text(), re.M)
     return [name for name in names if name not in UNNAMED]
-
-
-def snake(name):
-    return re.sub(r"(?<=[a-z])(?=[A-Z])", "_", name).upper()
 
 
 def main():

@@ -8,7 +8,7 @@ WORD = r"(?<![\w-]){}(?![\w-])"
 # How a file of each kind declares a name; {} is the name.
 DECLARED = {
     ".antt": r"^\s*(?:(?:abbrev|unfoldable|pub) )*(?:(?:record|data|ruleset) {0}(?=\s)|{0} :(?=\s))",
-    ".rt": r"^\s*(?:pub )?(?:extern \"C\" )?(?:fn|struct|enum|const|mod) {}\b",
+    ".rt": r"^\s*(?:pub(?:\(\w+\))? )?(?:extern \"C\" )?(?:fn|struct|enum|const|mod|static|type|trait) {}\b",
     ".rs": r"^\s*(?:pub(?:\(\w+\))? )?(?:fn|struct|enum|const|mod|static|type|trait) {}\b",
     ".h": r"^(?:#define {0}\b|typedef .*\b{0};|\}} {0};|\w.*\b{0}\()",
     ".c": r"^(?:#define |\w.*\b){}\(",
