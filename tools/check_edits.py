@@ -25,11 +25,13 @@ EACH_FUNCTION = ("manager",)
 # A line of rt for an edit: what became of it, whether only for a name that is gone or a limit, and the first error, of 160 letters.
 TRIED = re.compile(r"rt: must-fail (\w+)/(\S+)\.edit: (refused, as it must be|BAD EDIT|NOT REFUSED|NOT TRIED)( \(only [^)]*\))?(?:: (.*))?$")
 NOT_PROVED = re.compile(r"note: \S+:\d+:\d+: it is not proved that ")
-# The first words of an error that are a fact whatever follows.
+# The first words of an error that are a fact whatever follows, and of one that shows two types or sides, with the first of them as far as it is seen.
 FAILS = re.compile(r"\S+:\d+:\d+: error: `[^`]+`: `(?:search`: no proof of|omega`: the goal does not follow) ")
+SHOWS = re.compile(r"\S+:\d+:\d+: error: `[^`]+`: (?P<how>as printed|computed as far as they go|expected type)(?:, the two (?:types|sides) "
+                   r"(?:are|.*?where one has))?(?: `(?P<end>[^`]{8,}|[^`]+(?=`)))?")
 
 ERROR = re.compile(r"\S+:\d+:\d+: error: ")
-FOLLOWS = re.compile(r"\d+ declarations? that depends? on `[^`]+`, which was |`[^`]+` was not admitted ")
+FOLLOWS = re.compile(r"(?:`[^`]*`: )?(?:\d+ declarations? that depends? on `[^`]+`, which was |`[^`]+` was not admitted )")
 # Of a proof that no longer fits: what it names is gone, or what it rewrites stands no longer where it did.
 UNFIT = re.compile(r"that can be named from here|has no (?:field|member|constructor|clause|case|`)|not in scope|takes? \d+ arguments?"
                    r"|`rw`: no occurrence of ")
@@ -37,13 +39,20 @@ DIFFER = re.compile(r"the two (?:types|sides) .*?where one has `(.*?)`.*?the oth
 COMPUTED = re.compile(r"computed as far as they go, the two (?:types|sides) (?:(?:first )?differ|are) |neither could be computed")
 SAME = re.compile(r"the first \d+ bytes of the two (?:types|sides) are identical")
 # A place in the code, as the proof files name it: the code between two such places has another shape.
-PLACE = re.compile(r"\bLts\.\w")
+PLACE = re.compile(r"\bLts\.[A-Z]")
+# What may be one, or be of one, in a line that is cut.
+MAYBE_PLACE = re.compile(r"\bLts\.|\bgoal\.|\btie\.|\.proofs\.")
 # The proof of a function, in a folder of its own; any other file of proofs/ has lemmas.
 OF_FUNCTION = re.compile(r"(?:\./)?proofs/(?:[^/]+/)*[+a-z][^/]*/(?:Proof|Invariants|Answers)\.antt:")
 
 
 def tokens(text):
     return set(re.split(r"[\s(){};,]+", text))
+
+
+def is_of_code(edit):
+    """Whether the edit changes code alone, so that no proof can quote what it changes, and no lemma be refused for it."""
+    return all(file.startswith("src/") for file, *_ in edit.changes)
 
 
 def changed_definitions(edit):
@@ -56,7 +65,7 @@ def changed_definitions(edit):
         words = names | {name.strip("◌") for name in names}
         more = {d.name for d in every if words & tokens(d.whole())} - names
         grown, names = bool(more), names | more
-    return names
+    return names or (set() if is_of_code(edit) else {"what it proves"})
 
 
 def errors(text):
@@ -66,7 +75,7 @@ def errors(text):
     found, open_goals = [], []
     for record in records:
         at = ERROR.match(record)
-        if at and not FOLLOWS.match(re.sub(r"^`[^`]*`: ", "", record[at.end():])):
+        if at and not FOLLOWS.match(record, at.end()):
             found.append(record)
         elif record.startswith("note: ") and "it is not proved that" in record:
             open_goals.append(record)
@@ -80,7 +89,7 @@ def kind(error, changed):
     ends = DIFFER.search(error)
     if ends and all(map(PLACE.search, ends.groups())):
         return "unfit"
-    if SAME.search(error):
+    if SAME.search(error) and changed:
         return "quoted"
     if ends and not COMPUTED.search(error):
         heads = {end.strip(" (").split()[0].split(".")[-1] for end in ends.groups() if end.strip(" (")}
@@ -96,9 +105,17 @@ def tried(log):
 
 
 def is_settled(edit, said):
-    """Whether the first error is a fact by itself: an open goal, where only code was changed, or a goal that a tactic can't prove."""
-    of_code = all(file.startswith("src/") for file, *_ in edit.changes)
-    return bool(of_code and NOT_PROVED.match(said) or FAILS.match(said) and not UNFIT.search(said))
+    """Whether the first error is a fact by itself: a goal that a tactic can't prove, or two types that differ when they are computed; where
+    only code was changed also an open goal, and whatever else is no place in the code."""
+    at = ERROR.match(said)
+    if not at:
+        return bool(NOT_PROVED.match(said)) and is_of_code(edit)
+    if UNFIT.search(said) or FOLLOWS.match(said, at.end()):
+        return False
+    shown = SHOWS.match(said)
+    if FAILS.match(said) or MAYBE_PLACE.search(said) or shown and not shown["end"]:
+        return bool(FAILS.match(said))
+    return is_of_code(edit) or bool(shown) and shown["how"].startswith("computed")
 
 
 def told(edit, line):
@@ -123,7 +140,7 @@ def verdict(edit, text):
         return "was refused with no error that can be read"
     place = " ".join(found[0].split())[:160]
     if "quoted" in kinds:
-        return f"was refused for its text alone: a proof quotes {', '.join(sorted(changed)) or 'what it proves'}: {place}"
+        return f"was refused for its text alone: a proof quotes {', '.join(sorted(changed))}: {place}"
     return f"was refused because the proof file no longer fits the code: {place}"
 
 

@@ -1,17 +1,21 @@
-"""Must-fail edits, and what a check says of a crate's copy with an edit.
+"""Must-fail edits, and what a check says of a crate with an edit.
 
-edited.py CRATE/LABEL..      prints it, of these edits"""
+edited.py CRATE/LABEL..      prints it, of these edits
+
+As rt tries an edit: over the libraries as rt ci or rt check left them, and over what a check of the crate as it stands proved. It is kept in
+build/edits, and not asked for again while nothing that it stands on has changed."""
 import concurrent.futures
 import hashlib
 import os
 import pathlib
-import queue
+import re
 import shutil
 import subprocess
 import sys
 import tempfile
 
-from sources import PARTS, ROOT, below, sum_of, uses
+from sources import PARTS, ROOT, below, is_noted, sum_of, uses
+from staticlib import KIT, rlib
 
 KEPT = ROOT / "build/edits"
 
@@ -41,57 +45,78 @@ class Edit:
         return hashlib.sha256(f"{sum_of(self.crate)} {self.text}".encode()).hexdigest()
 
 
-def copy(room, crate):
-    """Copies a crate and all below it into a folder, and takes away what was there of others."""
-    names = [*below(crate), crate]
-    lines = (ROOT / "crates.txt").read_text().splitlines()
-    (room / "crates.txt").write_text("".join(f"{line}\n" for line in lines if line.split("#")[0].replace(":", " ").split()[:1] in [[n] for n in names]))
-    for name in names:
+def words(name):
+    """What rattle is told of a crate, as rt tells it."""
+    source = "src/main.rt" if (ROOT / "crates" / name / "src/main.rt").exists() else "src/lib.rt"
+    found = ["--crate-name", name, source]
+    for used in ("std", *uses()[name]):
+        found += ["--extern", f"{used}={rlib(used)}"]
+    for folder in [KIT / "rlibs"] + [rlib(used).parent for used in below(name)]:
+        found += ["-L", f"dependency={folder}"]
+    if re.search(rf"^{name} staticlib\b", (ROOT / "crates.txt").read_text(), re.M):
+        found += ["--crate-type", "staticlib"]
+    return found + ["--antt-project", KIT / "rattle/logic/antt-project.json", "--logic-built", KIT / "logic_built", "--jobs", "1"]
+
+
+def checked(name, changes, over):
+    """A check of a copy of a crate with changes, begun with what stands in the folder `over` and kept there, or from nothing."""
+    with tempfile.TemporaryDirectory(prefix="edit-") as made:
         for part in PARTS:
-            if (ROOT / "crates" / name / part).is_dir() and not (room / "crates" / name / part).exists():
-                shutil.copytree(ROOT / "crates" / name / part, room / "crates" / name / part)
+            if (ROOT / "crates" / name / part).is_dir():
+                shutil.copytree(ROOT / "crates" / name / part, f"{made}/{part}")
+        for file, old, new in changes:
+            path = pathlib.Path(made) / file
+            path.write_text(path.read_text().replace(old, new))
+        command = [KIT / "bin/rattle", "check", *words(name), *(["--incremental", over] if over else [])]
+        return subprocess.run(command, cwd=made, stdin=subprocess.DEVNULL, stdout=subprocess.PIPE, stderr=subprocess.STDOUT, text=True, errors="replace")
 
 
-def checked(room, edit):
-    """All that `rt check` says of the edited crate in a copy."""
-    copy(room, edit.crate)
-    crate, before = room / "crates" / edit.crate, {}
-    for file, old, new in edit.changes:
-        text = (crate / file).read_text()
-        before.setdefault(file, text)
-        (crate / file).write_text(text.replace(old, new))
-    try:
-        rt = subprocess.run(["rt", "check", "--jobs", "1"], cwd=crate, stdin=subprocess.DEVNULL, stdout=subprocess.PIPE, stderr=subprocess.STDOUT, text=True)
-    finally:
-        for file, text in before.items():
-            (crate / file).write_text(text)
-    return rt.stdout
+def linked(folder, to):
+    """Copies what a check kept, of which a later one replaces the proofs and changes none."""
+    shutil.copytree(folder, to, copy_function=lambda one, other: (os.link if one.endswith(".oantt") else shutil.copy2)(one, other))
+
+
+def seed(name, edits, room):
+    """A folder with what a check of the crate as it stands proves; none where it serves one edit alone, which is then checked from nothing."""
+    folder = ROOT / "crates" / name
+    if not all(map(is_noted, below(name))):
+        subprocess.run(["rt", "check"], cwd=folder, stdin=subprocess.DEVNULL, stdout=subprocess.DEVNULL, stderr=subprocess.DEVNULL)
+    begun, over = folder / "out/incremental", room / name
+    if not begun.is_dir() and edits < 2:
+        return None
+    if begun.is_dir():
+        linked(begun, over)
+    else:
+        over.mkdir()
+    return over if checked(name, [], over).returncode == 0 else None
+
+
+def text(edit, seeds):
+    """All that a check says of an edit, as it is kept or from a copy."""
+    log, stamp = KEPT / edit.crate / f"{edit.label}.log", KEPT / edit.crate / f"{edit.label}.sum"
+    log.parent.mkdir(parents=True, exist_ok=True)
+    stamp.unlink(missing_ok=True)
+    over = seeds[edit.crate] and seeds[edit.crate].with_name(f"{edit.crate}.{edit.label}")
+    if over:
+        linked(seeds[edit.crate], over)
+    log.write_text(checked(edit.crate, edit.changes, over).stdout)
+    shutil.rmtree(over or "", ignore_errors=True)
+    stamp.write_text(edit.sum())
+
+
+def is_kept(edit):
+    stamp = KEPT / edit.crate / f"{edit.label}.sum"
+    return stamp.is_file() and stamp.read_text() == edit.sum()
 
 
 def texts(edits):
-    """(edit, what a check says of it) for each edit, from build/edits where nothing that it reads has changed; as many side by side as there are processors."""
-    rooms = queue.SimpleQueue()
-
-    def text(edit):
-        log, stamp = KEPT / edit.crate / f"{edit.label}.log", KEPT / edit.crate / f"{edit.label}.sum"
-        if not (log.is_file() and stamp.is_file() and stamp.read_text() == edit.sum()):
-            log.parent.mkdir(parents=True, exist_ok=True)
-            stamp.unlink(missing_ok=True)
-            room = rooms.get()
-            try:
-                log.write_text(checked(room, edit))
-            finally:
-                rooms.put(room)
-            stamp.write_text(edit.sum())
-        return edit, log.read_text()
-
-    with tempfile.TemporaryDirectory(prefix="edits-") as made:
-        lanes = min(len(os.sched_getaffinity(0)), len(edits)) or 1
-        for lane in range(lanes):
-            rooms.put(pathlib.Path(made) / str(lane))
-            (pathlib.Path(made) / str(lane)).mkdir()
-        with concurrent.futures.ThreadPoolExecutor(lanes) as pool:
-            return list(pool.map(text, edits))
+    """(edit, what a check says of it) for each edit; as many checks side by side as there are processors."""
+    new = [edit for edit in edits if not is_kept(edit)]
+    crates = {name: sum(edit.crate == name for edit in new) for name in sorted({edit.crate for edit in new})}
+    with tempfile.TemporaryDirectory(prefix="edits-") as made, concurrent.futures.ThreadPoolExecutor(len(os.sched_getaffinity(0))) as pool:
+        seeds = dict(zip(crates, pool.map(lambda name: seed(name, crates[name], pathlib.Path(made)), crates)))
+        list(pool.map(lambda edit: text(edit, seeds), new))
+    return [(edit, (KEPT / edit.crate / f"{edit.label}.log").read_text()) for edit in edits]
 
 
 if __name__ == "__main__":
