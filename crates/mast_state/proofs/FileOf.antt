@@ -16,7 +16,6 @@ use Rattle.rules.specs.Numbers.{successful}
 use Rattle.rules.specs.Calls.{answered}
 use Rattle.rules.proofs.Invariants.Agreeing.{true_agrees}
 use Rattle.tables.specs.Layout.{laid, model_of}
-use Rattle.io.specs.Counts.{IsPrefixLen}
 use Rattle.agreement.specs.Bytes.{agrees_bytes}
 use Rattle.line.specs.Print.{spliced}
 use Rattle.line.proofs.Printing.{spliced_front, spliced_twice}
@@ -25,7 +24,7 @@ use Rattle.playing.proofs.Turning.{ran_from_lem}
 use Rattle.state.specs.File.{is_started, state_file, longest_file}
 use Rattle.state.specs.Reply.{Reply, Replied, saved, save_reply}
 use Rattle.state.proofs.Lengths.{file_longest}
-use Rattle.mast_state.specs.Saved.{file_of, Files, suffix, Keeps, Saves}
+use Rattle.mast_state.specs.Saved.{file_of, Files, Counts, suffix, Keeps, Saves}
 
 -- ---- a write
 
@@ -106,7 +105,7 @@ saves {bs = bs} outset e ran d n (inr f) = inr (subst (λ (done : Bool). Ran (la
 module _ (path name : List ℕ) (fits : length path + 7 ≤ length name) where
   pub beside_is : (at : ℕ) (part : List ℕ) (end : ℕ) (name' : List ℕ)
       → at ≡ 0 + length path → part ≡ spliced 0 path name → end ≡ at + 7 → name' ≡ spliced at suffix part
-      → IsPrefixLen end name' × (take end name' ≡ path ++ suffix)
+      → Counts end name' × (take end name' ≡ path ++ suffix)
   beside_is at part end name' here first ends second =
       let rest : List ℕ = drop (length (path ++ suffix)) name in
       let whole : name' ≡ (path ++ suffix) ++ rest =

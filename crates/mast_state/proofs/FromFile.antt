@@ -100,11 +100,11 @@ module _ (text before out : List ℕ) (n : ℕ) (w : Written 0 text before out n
   pub text_fits : n ≤ length out
   text_fits = let f = front_written text before out n w in omega (arith, f.0, ap length f.1 ∙ length-append text (drop n before))
 
+  pub text_front : take n out ≡ text
+  text_front = let f = front_written text before out n w in ap (take n) f.1 ∙ take_at text (drop n before) n (sym f.0)
+
   pub shows : (m : ℕ) → m ≡ length (take n out) → Shows m text out
   shows m e =
       let f = front_written text before out n w in
       let all : m ≡ n = e ∙ length-take-le n out text_fits in
-      record {
-        all = all ∙ f.0;
-        front = ap (λ (k : ℕ). take k out) all ∙ ap (take n) f.1 ∙ take_at text (drop n before) n (sym f.0);
-      }
+      record { all = all ∙ f.0; front = ap (λ (k : ℕ). take k out) all ∙ text_front }

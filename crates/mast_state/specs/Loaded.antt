@@ -1,5 +1,6 @@
 -- What the program does with the bytes of a file: those of a state file give its tables, which are shown or played on, and others nothing.
-use Rattle.std.specs.Prelude.{◌≡◌, Bool, true, false, List, ◌⊎◌, ℕ, ◌≤◌, length, take}
+use Rattle.std.specs.Prelude.{◌≡◌, Bool, true, false, List, ◌⊎◌, ℕ, ◌<◌, ◌≤◌, Option, length, take}
+use Rattle.std.specs.Io.KnownBytes.{Consumes, IsAtEnd}
 use Rattle.laws.specs.Choose.{choose}
 use Rattle.rules.specs.Machine.{unstarted}
 use Rattle.tables.specs.Layout.{laid}
@@ -14,6 +15,12 @@ use Rattle.mast_state.specs.declared.loading.Read.TheVariants.{Bytes, Failed}
 abbrev pub Within : Read → List ℕ → Type 0
 Within (Bytes n) buffer = n ≤ length buffer
 Within Failed buffer = Unit {0}
+
+-- so many bytes, at the buffer's front, are what the reader had left, or the buffer is full of the front of it
+pub record ReadsAll (unread unread' : Option (List ℕ)) (n : ℕ) (buffer : List ℕ) : Type 0 where
+  pub inside : n ≤ length buffer
+  pub read : Consumes unread unread' (take n buffer)
+  pub ended : n < length buffer → IsAtEnd unread'
 
 -- the tables are the file's where it is a state file, and else those of a machine not started: they agree
 pub record Loads (loaded : Bool) (file bs : List ℕ) : Type 0 where

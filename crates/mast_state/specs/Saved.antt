@@ -1,5 +1,5 @@
 -- What the program saves: all of the file of the machine that a session leaves, and nothing else.
-use Rattle.std.specs.Prelude.{◌≡◌, true, List, [], ◌∷◌, ◌⊎◌, ℕ, length, take}
+use Rattle.std.specs.Prelude.{◌≡◌, true, List, [], ◌∷◌, ◌⊎◌, ℕ, ◌≤◌, length, take}
 use Rattle.laws.specs.Choose.{choose, ◌and◌}
 use Rattle.rules.specs.Machine.{unstarted}
 use Rattle.tables.specs.Layout.{laid, model_of}
@@ -15,6 +15,10 @@ file_of bs = choose (agrees_bytes bs and is_started (model_of bs)) (state_file (
 pub record Files (n : ℕ) (bs buffer : List ℕ) : Type 0 where
   pub all : n ≡ length (file_of bs)
   pub front : take n buffer ≡ file_of bs
+
+-- so many bytes are at the front
+abbrev pub Counts : ℕ → List ℕ → Type 0
+Counts n xs = (n ≤ length xs) × (n ≡ length (take n xs))
 
 -- ".XXXXXX"
 abbrev pub suffix : List ℕ

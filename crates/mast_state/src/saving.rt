@@ -1,13 +1,24 @@
 // The machine that a session leaves, in a state file.
-ghost use Rattle.std.specs.Prelude.{◌≡◌, ◌++◌, ◌⊎◌, ◌+◌, ◌≤◌, length, take};
+ghost use Rattle.std.specs.Prelude.{◌≡◌, ◌++◌, ◌⊎◌, ◌+◌, ◌≤◌, length, take, OnOk};
+ghost use Rattle.std.specs.Io.KnownBytes.{Appends};
 ghost use Rattle.rules.specs.Machine.{unstarted};
 ghost use Rattle.tables.specs.Layout.{laid};
-ghost use Rattle.io.specs.Counts.{IsPrefixLen};
 ghost use Rattle.state.specs.File.{longest_file};
-ghost use Rattle.mast_state.specs.Saved.{suffix, Files, Keeps, Saves};
+ghost use Rattle.mast_state.specs.Saved.{Counts, suffix, Files, Keeps, Saves};
 
 use super::sessions;
-use libc::STDERR_FILENO;
+use super::telling::{tell, tell_words};
+use std::fs::{Files, OpenFile, OpenOptions};
+use std::io::{Error, ErrorKind, Write};
+use std::os::unix::fs::OpenOptionsExt;
+use std::random::RandomSource;
+use std::{fs, io};
+
+// What stands for each X of a name.
+const LETTERS: &[u8; 62] = b"abcdefghijklmnopqrstuvwxyzABCDEFGHIJKLMNOPQRSTUVWXYZ0123456789";
+
+// How many names are tried before it is given up.
+const TRIES: u32 = 62 * 62 * 62;
 
 // Puts the file of the tables at the buffer's front and returns its length, or 0 where there is none.
 fn file_of(m: &[u8], file: &mut [u8]) -> usize
@@ -21,95 +32,141 @@ fn file_of(m: &[u8], file: &mut [u8]) -> usize
     answer.value as usize
 }
 
-// The name of a file beside the one of this path, as `os::create_temp` asks for it.
+// The name of a file beside the one of this path, as `create_temp` asks for it.
 fn name_beside(path: &[u8], name: &mut [u8]) -> usize
     requires { length path.now + 7 ≤ length name.old }
-    ensures { IsPrefixLen result name.new × (take result name.new ≡ path.now ++ suffix) }
+    ensures { Counts result name.new × (take result name.new ≡ path.now ++ suffix) }
 {
     let end = line::put(name, 0, path);
     line::put(name, end, b".XXXXXX")
 }
 
-// Writes all of it, and waits until it has reached the device.
-fn write_out(fd: i32, path: &[u8], contents: &[u8]) -> bool {
-    if !io::write_all(fd, contents) {
-        os::fail(path);
-        return false;
-    }
-    if libc::fsync(fd) < 0 {
-        os::fail(path);
-        return false;
-    }
-    true
+fn letter(random: u8) -> u8 {
+    LETTERS[(random % 62) as usize]
 }
 
-fn fill(fd: i32, path: &[u8], contents: &[u8]) -> bool {
-    let is_written = write_out(fd, path, contents);
-    let closed = libc::close(fd);
-    if !is_written {
-        return false;
+// Puts letters at random in place of the X's at the name's end.
+fn put_letters(name: &mut [u8], random: &[u8; 6]) {
+    let start = name.len().saturating_sub(6);
+    for (place, b) in name[start..].iter_mut().zip(random) {
+        *place = letter(*b);
     }
-    if closed < 0 {
-        os::fail(path);
-        return false;
+}
+
+// Opens a file of this name that was not there, for its owner alone.
+fn create_new<R: Files>(rt: &R, name: &[u8]) -> io::Result<R::File> {
+    match playing::text_of(name) {
+        Ok(text) => OpenOptions::new()
+            .write(true)
+            .create_new(true)
+            .mode(0o600)
+            .open(rt, text),
+        Err(error) => Err(error),
     }
-    true
+}
+
+// Opens a file that was not there, with letters in the name's X's that no other file has.
+fn create_temp<R: Files + RandomSource>(rt: &R, name: &mut [u8]) -> io::Result<R::File> {
+    for _ in 0..TRIES {
+        let mut random = [0u8; 6];
+        rt.fill_bytes(&mut random)?;
+        put_letters(name, &random);
+        match create_new(rt, name) {
+            Ok(file) => return Ok(file),
+            Err(error) => {
+                if error.kind() != ErrorKind::AlreadyExists {
+                    return Err(error);
+                }
+            }
+        }
+    }
+    Err(Error::from(ErrorKind::AlreadyExists))
+}
+
+// Writes all of it, and waits until it has reached the device.
+fn write_out<F: Write + OpenFile>(file: &mut F, contents: &[u8]) -> io::Result<()>
+    ensures { OnOk result (Appends (F.contents file.old) (F.contents file.new) contents.now) }
+{
+    file.write_all(contents)?;
+    file.sync_all()
+}
+
+// Fills the file and closes it.
+fn fill<R: Files>(mut file: R::File, contents: &[u8]) -> io::Result<()> {
+    write_out(&mut file, contents)
+}
+
+fn rename<R: Files>(rt: &R, from: &[u8], to: &[u8]) -> io::Result<()> {
+    match (playing::text_of(from), playing::text_of(to)) {
+        (Ok(from), Ok(to)) => fs::rename(rt, from, to),
+        (Err(error), _) | (_, Err(error)) => Err(error),
+    }
+}
+
+// A file that is not there, or can't be removed, is left as it is.
+fn unlink<R: Files>(rt: &R, name: &[u8]) {
+    if let Ok(text) = playing::text_of(name) {
+        let _ = fs::remove_file(rt, text);
+    }
 }
 
 // Fills a file beside the one of this path and then gives it that name, or removes it again: nobody sees half a file.
-fn replace_by(name: &mut [u8], path: &[u8], contents: &[u8]) -> usize
+fn replace_by(rt: &HostRuntime, name: &mut [u8], path: &[u8], contents: &[u8]) -> usize
     ensures { (result ≡ 0) ⊎ (result ≡ length contents.now) }
 {
-    let fd = os::create_temp(name);
-    if fd < 0 {
-        os::fail(path);
+    let filled = match create_temp(rt, name) {
+        Ok(file) => fill::<HostRuntime>(file, contents),
+        Err(error) => {
+            tell(rt, path, error);
+            return 0;
+        }
+    };
+    if let Err(error) = filled {
+        tell(rt, path, error);
+        unlink(rt, name);
         return 0;
     }
-    if !fill(fd, path, contents) {
-        os::unlink(name);
-        return 0;
-    }
-    if os::rename(name, path) < 0 {
-        os::fail(path);
-        os::unlink(name);
+    if let Err(error) = rename(rt, name, path) {
+        tell(rt, path, error);
+        unlink(rt, name);
         return 0;
     }
     contents.len()
 }
 
 // Returns how many bytes the file of this path has now, or 0 where it is as it was.
-fn replace(path: &[u8], contents: &[u8]) -> usize
+fn replace(rt: &HostRuntime, path: &[u8], contents: &[u8]) -> usize
     requires { length path.now ≤ 4096 }
     ensures { (result ≡ 0) ⊎ (result ≡ length contents.now) }
 {
     let mut name = [0u8; 4103];
     let end = name_beside(path, &mut name);
-    replace_by(&mut name[..end], path, contents)
+    replace_by(rt, &mut name[..end], path, contents)
 }
 
 // Writes the file of the tables, and nothing where there is none. Returns how many bytes it has.
-fn keep(path: &[u8], m: &[u8], file: &mut [u8]) -> usize
+fn keep(rt: &HostRuntime, path: &[u8], m: &[u8], file: &mut [u8]) -> usize
     requires { (length path.now ≤ 4096) × (longest_file ≤ length file.old) }
     ensures { Keeps result m.now file.new }
 {
     let length = file_of(m, file);
     if length == 0 {
-        io::write_all(
-            STDERR_FILENO,
+        tell_words(
+            rt,
             b"the session starts no machine, so there is no state to save.\n",
         );
         return 0;
     }
-    replace(path, &file[..length])
+    replace(rt, path, &file[..length])
 }
 
 // Plays a session from a machine that is not started, and saves what it leaves if all of it was read and answered.
-pub fn save(path: &[u8], m: &mut [u8], file: &mut [u8]) -> usize
+pub fn save(rt: &HostRuntime, path: &[u8], m: &mut [u8], file: &mut [u8]) -> usize
     requires { (m.old ≡ laid unstarted) × (length path.now ≤ 4096) × (longest_file ≤ length file.old) }
     ensures { Saves result m.new file.new }
 {
-    if !sessions::play(m) {
+    if !sessions::play(rt, m) {
         return 0;
     }
-    keep(path, m, file)
+    keep(rt, path, m, file)
 }

@@ -6,51 +6,60 @@ ghost use Rattle.playing.specs.Turns.{Ran};
 ghost use Rattle.mast_state.specs.Loaded.{Loaded, Resumed, Resumes};
 
 use super::loading;
-use libc::STDIN_FILENO;
+use super::telling::{tell, tell_ended, tell_words};
+use std::env::{Env, FillError};
 
-fn play_file(path: &[u8], m: &mut [u8]) -> bool
+fn play_file(rt: &HostRuntime, path: &[u8], m: &mut [u8]) -> bool
     ensures { Ran m.old result m.new }
 {
-    let fd = os::open_read(path);
-    if fd < 0 {
-        os::fail(path);
-        return false;
+    match playing::open(rt, path) {
+        Ok(mut file) => {
+            let ended = playing::play(&mut file, &mut rt.stdout(), m);
+            tell_ended(rt, path, ended)
+        }
+        Err(error) => {
+            tell(rt, path, error);
+            false
+        }
     }
-    let is_done = playing::play(fd, path, m);
-    libc::close(fd);
-    is_done
+}
+
+fn play_input(rt: &HostRuntime, m: &mut [u8]) -> bool
+    ensures { Ran m.old result m.new }
+{
+    let ended = playing::play(&mut rt.stdin(), &mut rt.stdout(), m);
+    tell_ended(rt, b"standard input", ended)
 }
 
 // Says whether the session came to its end and all was written.
-pub fn play(m: &mut [u8]) -> bool
+pub fn play(rt: &HostRuntime, m: &mut [u8]) -> bool
     ensures { Ran m.old result m.new }
 {
-    if os::arg_count() < 4 {
-        return playing::play(STDIN_FILENO, b"standard input", m);
+    let mut path = [0u8; 4096];
+    match rt.arg(3, &mut path) {
+        Ok(length) => play_file(rt, &path[..length], m),
+        Err(FillError::NotPresent) => play_input(rt, m),
+        Err(FillError::TooLong) => {
+            tell_words(rt, b"the argument: File name too long\n");
+            false
+        }
     }
-    let mut path = io::buffer();
-    let length = os::arg(3, &mut path);
-    if os::errno() != 0 {
-        os::fail(b"the argument");
-        return false;
-    }
-    play_file(&path[..length], m)
 }
 
-fn go_on(m: &mut [u8]) -> bool
+fn go_on(rt: &HostRuntime, m: &mut [u8]) -> bool
     requires { Loaded m.old }
     ensures { Resumed result m.new }
 {
-    play(m)
+    play(rt, m)
 }
 
 // Loads the file's machine, and plays the session from it.
-pub fn resume(path: &[u8], m: &mut [u8], file: &mut [u8]) -> bool
+pub fn resume(rt: &HostRuntime, path: &[u8], m: &mut [u8], file: &mut [u8]) -> bool
     requires { m.old ≡ laid unstarted }
     ensures { Resumes result m.new }
 {
-    if !loading::load(path, m, file) {
+    if !loading::load(rt, path, m, file) {
         return false;
     }
-    go_on(m)
+    go_on(rt, m)
 }

@@ -9,25 +9,29 @@ use lib.ListN.{length, take, drop, replicate, length-append, length-drop, length
 use lib.Seq.{take-add, take_all, length-take-le}
 use Rattle.laws.proofs.Choose.{never}
 use Rattle.session.specs.declared.Fed.{Fed}
+use Rattle.line.specs.Print.{spliced}
 use Rattle.session.specs.Kept.{Kept, keeps, after_part, said_to_part, at_end, Reached}
 use Rattle.session.specs.Feeding.{Writes, FedIs}
 use Rattle.session.proofs.Feeding.{after_append, said_append, part_few, fed_inside, fed_some, fed_fits, fed_text, at_end_few}
+use Rattle.session.proofs.Output.{front}
 use Rattle.playing.specs.declared.Heard.{Heard}
 use Rattle.playing.specs.declared.Heard.TheVariants.{Bytes, End, Failed}
+use Rattle.playing.specs.declared.State.{State}
+use Rattle.playing.specs.declared.State.TheVariants.{Going}
 use Rattle.playing.specs.declared.Turn.{Turn}
-use Rattle.playing.specs.Turns.{Turned, Answers, Ends, Within, Does, Ran}
+use Rattle.playing.specs.Turns.{is_going, is_done, going, done, Turned, Answers, Ends, Within, Does, Ran}
 
-abbrev pub turn : ℕ → ℕ → ℕ → Bool → Turn
-turn taken begun said going = record { taken = taken; begun = begun; said = said; going = going; done = false }
+abbrev pub turn : ℕ → ℕ → ℕ → State → Turn
+turn taken begun said state = record { taken = taken; begun = begun; said = said; state = state }
 
 -- ---- one feed, with all of what was written handed on
 
 pub answers :
     {r : Fed} {k : Kept} {input bs line before out : List ℕ} → FedIs r k input bs line before out
     → length out ≡ length before → 33 ≤ length before → 1 ≤ length input
-    → (n : ℕ) (going : Bool) → n ≡ length (take r.written out)
-    → Answers (turn r.taken r.begun n going) k input bs line out
-answers {r} {k} {input} {out = out} f same room some n going e =
+    → (n : ℕ) (state : State) → n ≡ length (take r.written out)
+    → Answers (turn r.taken r.begun n state) k input bs line out
+answers {r} {k} {input} {out = out} f same room some n state e =
     let all : n ≡ r.written = e ∙ length-take-le r.written out (omega (arith, fed_fits f same)) in
     record {
       turned = record { inside = fed_inside f; kept = f.kept; said = all ∙ f.written };
@@ -38,19 +42,19 @@ answers {r} {k} {input} {out = out} f same room some n going e =
 -- ---- turns over a part
 
 module _ (k : Kept) (input : List ℕ) where
-  pub turned_none : (going : Bool) → Turned (turn 0 k.begun 0 going) k input k.bytes k.line
+  pub turned_none : (state : State) → Turned (turn 0 k.begun 0 state) k input k.bytes k.line
   unfolding after_part said_to_part
-  turned_none going = record { inside = omega arith; kept = refl; said = refl }
+  turned_none state = record { inside = omega arith; kept = refl; said = refl }
 
   pub rest_is : (n : ℕ) → take (length input - n) (drop n input) ≡ drop n input
   rest_is n = take_all (length input - n) (drop n input) (omega (arith, length-drop n input))
 
   -- a turn on the rest of the input behind the bytes taken
   pub turned_more :
-      (taken kept said : ℕ) (going : Bool) (bs line : List ℕ) → Turned (turn taken kept said going) k input bs line
-      → (r : Turn) (going' : Bool) (rest bs' line' : List ℕ) → rest ≡ drop taken input → Turned r (keeps bs line kept) rest bs' line'
-      → Turned (turn (taken + r.taken) r.begun (said + r.said) going') k input bs' line'
-  turned_more taken kept said going bs line i r going' rest bs' line' e t =
+      (taken kept said : ℕ) (state : State) (bs line : List ℕ) → Turned (turn taken kept said state) k input bs line
+      → (r : Turn) (state' : State) (rest bs' line' : List ℕ) → rest ≡ drop taken input → Turned r (keeps bs line kept) rest bs' line'
+      → Turned (turn (taken + r.taken) r.begun (said + r.said) state') k input bs' line'
+  turned_more taken kept said state bs line i r state' rest bs' line' e t =
       let done : List ℕ = take taken input in
       let now : List ℕ = take r.taken rest in
       let joined : done ++ now ≡ take (taken + r.taken) input =
@@ -82,6 +86,11 @@ module _ (k : Kept) {n : ℕ} {bs before out : List ℕ} (w : Writes (at_end k) 
   pub end_within : n ≤ 33
   end_within = omega (arith, w.ends, at_end_few k)
 
+  pub end_text : take n out ≡ (at_end k).output
+  end_text =
+      ap (λ (l : List ℕ). take n l) w.output ∙ ap (λ (j : ℕ). take j (spliced 0 (at_end k).output before)) w.ends
+      ∙ front 0 (at_end k).output before (omega arith)
+
 -- ---- what a read gave
 
 pub within : {h : Heard} (n : ℕ) (input : List ℕ) → h ≡ Bytes n → Within h input → n ≤ length input
@@ -110,16 +119,22 @@ module _ (r : Turn) (k : Kept) {outset : List ℕ} (bs line : List ℕ) (g : Rea
   turned_reached input t = reached_more (take r.taken input) g t.kept
 
   -- a turn after which there are more
-  pub goes_on : (input : List ℕ) (heard : Heard) → Does r heard k input bs line → r.going ≡ true → Reached outset (keeps bs line r.begun)
+  pub goes_on : (input : List ℕ) (heard : Heard) → Does r heard k input bs line → going r ≡ true → Reached outset (keeps bs line r.begun)
   goes_on input (Bytes n) d e = turned_reached (take n input) d.0
   goes_on input End d e = never e d.1
-  goes_on input Failed d e = never e d.1
+  goes_on input (Failed f) d e = never e d.1
 
   -- and the last one
-  pub stops : (input : List ℕ) (heard : Heard) → Does r heard k input bs line → Ran outset r.done bs
+  pub stops : (input : List ℕ) (heard : Heard) → Does r heard k input bs line → Ran outset (done r) bs
   stops input (Bytes n) d = record { last = keeps bs line r.begun; reached = turned_reached (take n input) d.0; bytes = inl (d.2, refl) }
   stops input End d = record { last = k; reached = g; bytes = inr d.0.bytes }
-  stops input Failed d = record { last = keeps bs line r.begun; reached = turned_reached [] d.0; bytes = inl (d.2, refl) }
+  stops input (Failed f) d = record { last = keeps bs line r.begun; reached = turned_reached [] d.0; bytes = inl (d.2, refl) }
+
+  pub goes_on_as : (input : List ℕ) (heard : Heard) → Does r heard k input bs line → r.state ≡ Going → Reached outset (keeps bs line r.begun)
+  goes_on_as input heard d e = goes_on input heard d (ap is_going e)
+
+  pub stops_as : (input : List ℕ) (heard : Heard) → Does r heard k input bs line → (s : State) → r.state ≡ s → Ran outset (is_done s) bs
+  stops_as input heard d s e = subst (λ (x : State). Ran outset (is_done x) bs) e (stops input heard d)
 
 -- no text at all
 pub ran_none : (bs : List ℕ) → Ran bs false bs

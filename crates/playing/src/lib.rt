@@ -1,56 +1,99 @@
-// A session played from a descriptor: what is read is answered on standard output.
-// What is read and what is written no contract can say. What is done with it they do: which bytes the session is fed, in order and once,
-// and that every byte it says is handed to standard output.
+// A session played from a reader: what is read is answered to a writer before the next read.
+// The contracts say which bytes the session is fed, in order and once, and that they are all that was read; that every byte it says is handed
+// to the writer, and written once with nothing else, or a front of it where a read or a write fails.
 #![tactic(auto)]
 
-ghost use Rattle.std.specs.Prelude.{◌≡◌, true, false, ◌≤◌, length};
-ghost use Rattle.session.specs.Kept.{keeps};
-ghost use Rattle.playing.specs.Turns.{Turned, Answers, Ends, Within, Does, DoesSome, Ran};
+ghost use Rattle.std.specs.Prelude.{◌≡◌, true, false, ◌≤◌, length, take, is_ok, OnOk, OnErr, IfSome};
+ghost use Rattle.std.specs.Io.KnownBytes.{Appends};
+ghost use Rattle.session.specs.Kept.{keeps, said_to_part, at_end};
+ghost use Rattle.playing.specs.Turns.{going, done, Turned, Answers, Ends, Within, Does, DoesSome, Ran};
+ghost use Rattle.playing.specs.Streams.{WritesAll, Hands, state_after, Hears, said_to_heard, Goes, fresh, said_to_whole, Played, BrokeOff, Tells, what_failed};
 
-use libc::STDOUT_FILENO;
+use std::fmt::InlineText;
+use std::fs::Files;
+use std::io::{Error, ErrorKind, Read, Write};
+use std::{fs, io};
+
+// Why a session was not played to its end: what was read, or what was said.
+#[derive(Clone, Copy, Debug)]
+pub enum PlayError {
+    Unread(Error),
+    Unwritten(Error),
+}
 
 // What a read gave: so many bytes at the front of the buffer, the end of the input, or an error.
 #[derive(Clone, Copy)]
 enum Heard {
     Bytes(usize),
     End,
-    Failed,
+    Failed(Error),
 }
 
-// After a turn: how many bytes of the input were fed, how long the line is that has begun, how many bytes were handed to standard output,
-// whether to go on, and whether all is done: the input has ended, and standard output took the last answer.
+// Whether to go on after a turn, or all is done: the input has ended, and the writer took the last answer. Or what failed.
+#[derive(Clone, Copy)]
+enum State {
+    Going,
+    Done,
+    Broken(PlayError),
+}
+
+// After a turn: how many bytes of the input were fed, how long the line is that has begun, how many bytes were handed to the writer, and
+// whether to go on.
 #[derive(Clone, Copy)]
 struct Turn {
     pub taken: usize,
     pub begun: usize,
     pub said: usize,
-    pub going: bool,
-    pub done: bool,
+    pub state: State,
 }
 
-// How many bytes were handed to standard output, and whether it took them all.
+// How many bytes were handed to the writer, and whether it took them all.
 #[derive(Clone, Copy)]
 pub struct Said {
     pub length: usize,
-    pub going: bool,
+    pub ended: io::Result<()>,
 }
 
-// Writes what is said to standard output, and tells where that fails.
-pub fn say(said: &[u8]) -> Said
-    ensures { result.length ≡ length said.now }
+// Writes all of it, in as many writes as it takes.
+fn write_whole<W: Write>(writer: &mut W, said: &[u8]) -> io::Result<()>
+    ensures { WritesAll result (W.contents writer.old) (W.contents writer.new) said.now }
 {
-    let is_written = io::write_all(STDOUT_FILENO, said);
-    if !is_written {
-        os::fail(b"standard output");
+    let mut written = 0;
+    while written < said.len() {
+        let n = writer.write(&said[written..])?;
+        if n == 0 {
+            return Err(Error::new(ErrorKind::WriteZero, "failed to write whole buffer"));
+        }
+        written += n;
     }
+    Ok(())
+}
+
+// Writes what is said, and tells where that fails.
+pub fn say<W: Write>(writer: &mut W, said: &[u8]) -> Said
+    ensures length { result.length ≡ length said.now }
+    ensures written { WritesAll result.ended (W.contents writer.old) (W.contents writer.new) said.now }
+{
+    let ended = write_whole(writer, said);
     Said {
         length: said.len(),
-        going: is_written,
+        ended,
+    }
+}
+
+// After a write: what is next, unless it failed.
+fn state_after(ended: io::Result<()>, next: State) -> State
+    ensures { result ≡ state_after ended next }
+{
+    match ended {
+        Ok(()) => next,
+        Err(error) => State::Broken(PlayError::Unwritten(error)),
     }
 }
 
 // Feeds the session once, and writes what it says.
-fn answer_some(
+fn answer_some<W: Write>(
+    writer: &mut W,
     m: &mut [u8],
     line: &mut [u8; 256],
     begun: usize,
@@ -58,23 +101,26 @@ fn answer_some(
     out: &mut [u8],
 ) -> Turn
     requires { (33 ≤ length out.old) × (1 ≤ length input.now) }
-    ensures { Answers result (keeps m.old line.old begun) input.now
+    ensures answers { Answers result (keeps m.old line.old begun) input.now
         m.new line.new out.new }
+    ensures written { Hands result.state (W.contents writer.old) (W.contents writer.new)
+        (said_to_part (keeps m.old line.old begun) (take result.taken input.now)) }
 {
     let fed = session::feed(m, line, begun, input, out);
     let written = fed.written;
-    let said = say(&out[..written]);
+    let said = say(writer, &out[..written]);
+    let state = state_after(said.ended, State::Going);
     Turn {
         taken: fed.taken,
         begun: fed.begun,
         said: said.length,
-        going: said.going,
-        done: false,
+        state,
     }
 }
 
 // Answers the whole of a part of the input, in as many turns as the output's room asks.
-fn answer_part(
+fn answer_part<W: Write>(
+    writer: &mut W,
     m: &mut [u8],
     line: &mut [u8; 256],
     begun: usize,
@@ -82,24 +128,25 @@ fn answer_part(
     out: &mut [u8],
 ) -> Turn
     requires { (33 ≤ length out.old) × (length input.now ≤ 65536) }
-    ensures { Turned result (keeps m.old line.old begun) input.now m.new line.new
-        × (result.going ≡ true → result.taken ≡ length input.now) × (result.done ≡ false) }
+    ensures turned { Turned result (keeps m.old line.old begun) input.now m.new line.new
+        × (going result ≡ true → result.taken ≡ length input.now) × (done result ≡ false) }
+    ensures written { Hands result.state (W.contents writer.old) (W.contents writer.new)
+        (said_to_part (keeps m.old line.old begun) (take result.taken input.now)) }
 {
     let mut taken = 0;
     let mut kept = begun;
     let mut said = 0;
     while taken < input.len() {
-        let turn = answer_some(m, line, kept, &input[taken..], out);
+        let turn = answer_some(writer, m, line, kept, &input[taken..], out);
         taken += turn.taken;
         kept = turn.begun;
         said += turn.said;
-        if !turn.going {
+        if let State::Broken(error) = turn.state {
             return Turn {
                 taken,
                 begun: kept,
                 said,
-                going: false,
-                done: false,
+                state: State::Broken(error),
             };
         }
     }
@@ -107,33 +154,34 @@ fn answer_part(
         taken,
         begun: kept,
         said,
-        going: true,
-        done: false,
+        state: State::Going,
     }
 }
 
 // Writes the first n bytes of what is said at the end.
-fn say_last(out: &[u8; 33], n: usize) -> Said
+fn say_last<W: Write>(writer: &mut W, out: &[u8; 33], n: usize) -> Said
     requires { n ≤ 33 }
-    ensures { result.length ≡ n }
+    ensures length { result.length ≡ n }
+    ensures written { WritesAll result.ended (W.contents writer.old) (W.contents writer.new) (take n out.now) }
 {
     let all: &[u8] = out;
-    say(&all[..n])
+    say(writer, &all[..n])
 }
 
 // The input has ended: a line that has begun is answered.
-fn answer_end(m: &mut [u8], line: &[u8; 256], begun: usize) -> Said
-    ensures { Ends result.length (keeps m.old line.now begun) m.new }
+fn answer_end<W: Write>(writer: &mut W, m: &mut [u8], line: &[u8; 256], begun: usize) -> Said
+    ensures ends { Ends result.length (keeps m.old line.now begun) m.new }
+    ensures written { WritesAll result.ended (W.contents writer.old) (W.contents writer.new) (at_end (keeps m.old line.now begun)).output }
 {
     let mut out = [0u8; 33];
     let n = session::finish(m, line, begun, &mut out);
-    say_last(&out, n)
+    say_last(writer, &out, n)
 }
 
 // Answers what a read gave, before the next read, so that a person at a terminal is never kept waiting.
-fn answer_heard(
+fn answer_heard<W: Write>(
     heard: Heard,
-    name: &[u8],
+    writer: &mut W,
     m: &mut [u8],
     line: &mut [u8; 256],
     begun: usize,
@@ -141,50 +189,46 @@ fn answer_heard(
     out: &mut [u8],
 ) -> Turn
     requires { (33 ≤ length out.old) × (length input.now ≤ 65536) × Within heard input.now }
-    ensures { Does result heard (keeps m.old line.old begun) input.now m.new line.new }
+    ensures does { Does result heard (keeps m.old line.old begun) input.now m.new line.new }
+    ensures written { Hands result.state (W.contents writer.old) (W.contents writer.new)
+        (said_to_heard heard result (keeps m.old line.old begun) input.now) }
 {
     match heard {
-        Heard::Bytes(n) => answer_part(m, line, begun, &input[..n], out),
+        Heard::Bytes(n) => answer_part(writer, m, line, begun, &input[..n], out),
         Heard::End => {
-            let said = answer_end(m, line, begun);
+            let said = answer_end(writer, m, line, begun);
+            let state = state_after(said.ended, State::Done);
             Turn {
                 taken: 0,
                 begun,
                 said: said.length,
-                going: false,
-                done: said.going,
+                state,
             }
         }
-        Heard::Failed => {
-            os::fail(name);
-            Turn {
-                taken: 0,
-                begun,
-                said: 0,
-                going: false,
-                done: false,
-            }
-        }
+        Heard::Failed(error) => Turn {
+            taken: 0,
+            begun,
+            said: 0,
+            state: State::Broken(PlayError::Unread(error)),
+        },
     }
 }
 
-fn hear(fd: i32, input: &mut [u8]) -> Heard
-    ensures { Within result input.new }
+fn hear<R: Read>(reader: &mut R, input: &mut [u8]) -> Heard
+    ensures within { Within result input.new }
+    ensures hears { Hears result (R.remaining reader.old) (R.remaining reader.new) input.new }
 {
-    let got = libc::read(fd, input);
-    if got < 0 {
-        return Heard::Failed;
+    match reader.read(input) {
+        Ok(0) => Heard::End,
+        Ok(n) => Heard::Bytes(n),
+        Err(error) => Heard::Failed(error),
     }
-    if got == 0 {
-        return Heard::End;
-    }
-    Heard::Bytes(io::count(got, input))
 }
 
 // Reads once and answers what came.
-fn answer_read(
-    fd: i32,
-    name: &[u8],
+fn answer_read<R: Read, W: Write>(
+    reader: &mut R,
+    writer: &mut W,
     m: &mut [u8],
     line: &mut [u8; 256],
     begun: usize,
@@ -192,44 +236,106 @@ fn answer_read(
     out: &mut [u8],
 ) -> Turn
     requires { (33 ≤ length out.old) × (length input.old ≤ 65536) }
-    ensures { DoesSome result (keeps m.old line.old begun) input.new m.new line.new }
+    ensures does { DoesSome result (keeps m.old line.old begun) input.new m.new line.new }
+    ensures goes { 1 ≤ length input.old → Goes result.state (R.remaining reader.old) (R.remaining reader.new)
+        (W.contents writer.old) (W.contents writer.new) (keeps m.old line.old begun) m.new line.new result.begun }
 {
-    let heard = hear(fd, input);
-    answer_heard(heard, name, m, line, begun, input, out)
+    let heard = hear(reader, input);
+    answer_heard(heard, writer, m, line, begun, input, out)
 }
 
 // A proved loop has to end, and nothing says that an input does: the turns are counted down from a number that no run uses up.
-fn answer_all(
-    fd: i32,
-    name: &[u8],
+fn answer_all<R: Read, W: Write>(
+    reader: &mut R,
+    writer: &mut W,
     m: &mut [u8],
     line: &mut [u8; 256],
     input: &mut [u8],
     out: &mut [u8],
-) -> bool
+) -> Result<(), PlayError>
     requires { (33 ≤ length out.old) × (length input.old ≤ 65536) × (length line.old ≡ 256) }
-    ensures { Ran m.old result m.new }
+    ensures ran { Ran m.old (is_ok result) m.new }
+    ensures played { 1 ≤ length input.old → OnOk result (Played (R.remaining reader.old) (R.remaining reader.new)
+        (W.contents writer.old) (W.contents writer.new) (keeps m.old line.old 0) m.new) }
+    ensures broken { 1 ≤ length input.old → OnErr result (BrokeOff (R.remaining reader.old) (R.remaining reader.new)
+        (W.contents writer.old) (W.contents writer.new) (keeps m.old line.old 0) m.new) }
 {
     let mut begun = 0;
     let mut turns = u64::MAX;
     while turns > 0 {
-        let turn = answer_read(fd, name, m, line, begun, input, out);
-        if !turn.going {
-            return turn.done;
+        let turn = answer_read(reader, writer, m, line, begun, input, out);
+        match turn.state {
+            State::Going => {}
+            State::Done => return Ok(()),
+            State::Broken(error) => return Err(error),
         }
         begun = turn.begun;
         turns -= 1;
     }
-    false
+    Err(PlayError::Unread(Error::from(ErrorKind::TimedOut)))
 }
 
-// Plays the whole input from the tables as lent, and tells where it cannot be read or answered. Returns whether it came to its end and all
-// was written.
-pub fn play(fd: i32, name: &[u8], m: &mut [u8]) -> bool
-    ensures { Ran m.old result m.new }
+// Plays the whole input from the tables as lent. An error says that it was not read to its end, or not all was written.
+pub fn play<R: Read, W: Write>(
+    reader: &mut R,
+    writer: &mut W,
+    m: &mut [u8],
+) -> Result<(), PlayError>
+    ensures ran { Ran m.old (is_ok result) m.new }
+    ensures played { OnOk result (Played (R.remaining reader.old) (R.remaining reader.new)
+        (W.contents writer.old) (W.contents writer.new) (fresh m.old) m.new) }
+    ensures output { OnOk result (IfSome (R.remaining reader.old) (λ input.
+        Appends (W.contents writer.old) (W.contents writer.new) (said_to_whole (fresh m.old) input))) }
+    ensures broken { OnErr result (BrokeOff (R.remaining reader.old) (R.remaining reader.new)
+        (W.contents writer.old) (W.contents writer.new) (fresh m.old) m.new) }
 {
     let mut line = [0u8; 256];
-    let mut input = io::large_buffer();
-    let mut out = io::large_buffer();
-    answer_all(fd, name, m, &mut line, &mut input, &mut out)
+    let mut input = [0u8; 65536];
+    let mut out = [0u8; 65536];
+    answer_all(reader, writer, m, &mut line, &mut input, &mut out)
+}
+
+// The system's words alone, without the error's number behind them.
+fn words_of(text: &str) -> &str {
+    match text.split_once(" (os error ") {
+        Some((words, _)) => words,
+        None => text,
+    }
+}
+
+// Says in a line what failed, as the caller names it, and why.
+pub fn tell<E: Write>(err: &mut E, what: &[u8], error: Error) -> io::Result<()>
+    ensures { OnOk result (Tells (E.contents err.old) (E.contents err.new) what.now) }
+{
+    let text = InlineText::<128>::of(error);
+    err.write_all(what)?;
+    err.write_all(b": ")?;
+    err.write_all(words_of(text.as_str()).as_bytes())?;
+    err.write_all(b"\n")
+}
+
+// Says what kept the session of this name from its end.
+pub fn tell_broken<E: Write>(err: &mut E, name: &[u8], error: PlayError) -> io::Result<()>
+    ensures { OnOk result (Tells (E.contents err.old) (E.contents err.new) (what_failed error name.now)) }
+{
+    match error {
+        PlayError::Unread(error) => tell(err, name, error),
+        PlayError::Unwritten(error) => tell(err, b"standard output", error),
+    }
+}
+
+// The text of a file's name, which has to be UTF-8.
+pub fn text_of(path: &[u8]) -> io::Result<&str> {
+    match std::str::from_utf8(path) {
+        Ok(text) => Ok(text),
+        Err(_) => Err(Error::from(ErrorKind::InvalidFilename)),
+    }
+}
+
+// Opens the file of this name for reading.
+pub fn open<R: Files>(files: &R, path: &[u8]) -> io::Result<R::File> {
+    match text_of(path) {
+        Ok(text) => fs::open(files, text),
+        Err(error) => Err(error),
+    }
 }
