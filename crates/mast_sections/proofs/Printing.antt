@@ -1,22 +1,25 @@
 -- What is handed to standard output: the whole report of what was read, which is what the program prints for some text.
-use mathlib.Core.Path.{◌≡◌, refl, sym, ap, ◌∙◌}
-use mathlib.Core.List.{List}
-use Prim.Native.Nat.{ℕ, ◌≤◌}
-use native.Mathlib.Omega.{arith}
-use lib.ListN.{length, take, drop, replicate, length-append, length-replicate}
-use lib.Seq.{take_at, length-take-le}
+use Rattle.std.proofs.Common.{◌≡◌, ℕ, ◌+◌, ◌-◌, ◌≤◌, List, ◌++◌, Result, Ok, Err, IfOk, Some, None, inl, inr, refl, sym, ap, subst, ◌∙◌, length, take, drop, replicate, arith, length-append, length-drop, length-take-le, take_at, take-add, take_all}
+use Rattle.std.specs.Prelude.{IfSome, OnErr}
+use Rattle.std.proofs.Math.ListN.{length-replicate}
+use Rattle.std.specs.declared.option.Option.{Option}
+use Rattle.std.specs.Io.KnownBytes.{Consumes, Appends}
+use Rattle.std.proofs.KnownBytes.{Appends-trans, Consumes-whole}
 use Rattle.report.specs.Report.{Report, report_text, Reported}
 use Rattle.text.specs.Reading.{Room, Outcome, Reading, read_text}
 use Rattle.text.specs.Reading.Outcome.{Says, Fault}
 use Rattle.text.specs.Feeding.{Lent, room_of}
-use Rattle.mast_sections.specs.Taken.{SaidBy}
-use Rattle.mast_sections.specs.Program.{room, printed, printed_of, program, HasRoom, Shows, Prints}
+use Rattle.mast_sections.specs.Taken.{SaidBy, SaidByAll}
+use Rattle.mast_sections.specs.Program.{room, printed, printed_of, program, HasRoom, Shows, Prints, Writes, Handing}
 
 -- ---- a report at the front of the output
 
 module _ (r : Report) (before out : List ℕ) (n : ℕ) (w : Reported r before out n) where
   pub report_fits : n ≤ length out
   report_fits = omega (arith, w.0, ap length w.1 ∙ length-append (report_text r) (drop n before))
+
+  pub report_long : n ≡ length (take n out)
+  report_long = sym (length-take-le n out report_fits)
 
   pub shows : (m : ℕ) → m ≡ length (take n out) → Shows m (report_text r) out
   shows m e =
@@ -25,6 +28,17 @@ module _ (r : Report) (before out : List ℕ) (n : ℕ) (w : Reported r before o
         all = all ∙ w.0;
         front = ap (λ (k : ℕ). take k out) all ∙ ap (take n) w.1 ∙ take_at (report_text r) (drop n before) n (sym w.0);
       }
+
+  pub said_shows : {E : Type 0} (m : Result ℕ E) → IfOk m (λ k. k ≡ length (take n out)) → IfOk m (λ k. Shows k (report_text r) out)
+  said_shows (Ok k) e = shows k e
+  said_shows (Err x) e = tt
+
+  pub report_is : take n out ≡ report_text r
+  report_is = ap (take n) w.1 ∙ take_at (report_text r) (drop n before) n (sym w.0)
+
+pub shown_all : {E : Type 0} (m : Result ℕ E) (report out : List ℕ) → IfOk m (λ k. Shows k report out) → IfOk m (λ k. k ≡ length report)
+shown_all (Ok k) report out s = s.all
+shown_all (Err x) report out s = tt
 
 -- the front of an array of zeros
 pub zeros_front : (n m : ℕ) → n ≤ m → length {A = ℕ} (take n (replicate m 0)) ≡ n
@@ -53,3 +67,54 @@ module _ (l : Lent) (h : HasRoom l) where
 
   pub prints_nothing : (line fault : ℕ) → SaidBy (room_of l) (Fault line fault) → Prints 0
   prints_nothing line fault s = prints (Fault line fault) s 0 refl
+
+-- ---- all of some bytes, or a front of them
+
+pub on_err : {T E P : Type 0} (r : Result T E) → P → OnErr r P
+on_err (Ok x) p = tt
+on_err (Err e) p = p
+
+-- `&xs[n..]`
+pub rest_is : (xs : List ℕ) (n : ℕ) → take (length xs - n) (drop n xs) ≡ drop n xs
+rest_is xs n = take_all (length xs - n) (drop n xs) (omega (arith, length-drop n xs))
+
+pub written_more : (a b c : Option (List ℕ)) (xs : List ℕ) (done more : ℕ) → Appends a b (take done xs) → Appends b c (take more (take (length xs - done) (drop done xs)))
+    → Appends a c (take (done + more) xs)
+written_more a b c xs done more first second =
+    subst (Appends a c) (ap (λ (l : List ℕ). take done xs ++ take more l) (rest_is xs done) ∙ sym (take-add done more xs)) (Appends-trans a b c _ _ first second)
+
+pub writes_as : {T E : Type 0} (r : Result T E) (w w' : Option (List ℕ)) {xs ys : List ℕ} → xs ≡ ys → Writes r w w' xs → Writes r w w' ys
+writes_as r w w' e h = subst (Writes r w w') e h
+
+-- ---- what there was to read
+
+-- what holds of a front whatever follows holds of the whole
+of_front : (a b : Option (List ℕ)) (bs : List ℕ) (P : List ℕ → Type 0) → Consumes a b bs → ((rest : List ℕ) → P (bs ++ rest)) → IfSome a P
+of_front None b bs P c h = tt
+of_front (Some x) None bs P c h = absurd c
+of_front (Some x) (Some y) bs P c h = subst P (sym c) (h y)
+
+module _ (l : Lent) (h : HasRoom l) (u u' w w' : Option (List ℕ)) where
+  in_room : (what : Outcome) → SaidByAll (room_of l) what u u' → SaidByAll room what u u'
+  in_room what s = subst (λ (x : Room). SaidByAll x what u u') (room_is l h) s
+
+  pub handing : (what : Outcome) → SaidByAll (room_of l) what u u' → (n : ℕ) → n ≡ length (printed_of what) → Appends w w' (printed_of what) → Handing n u u' w w'
+  handing what s n e a = record { what = what; said = in_room what s; all = e; once = a }
+
+-- where it is known what there is to read
+module _ (u u' w w' : Option (List ℕ)) (n : ℕ) (h : Handing n u u' w w') where
+  abbrev IsPrinted : List ℕ → Type 0
+  IsPrinted text = (n ≡ length (program text)) × Appends w w' (program text)
+
+  prints_as : (text : List ℕ) → read_text room text ≡ h.what → IsPrinted text
+  unfolding program
+  prints_as text e =
+      let same = ap printed_of (sym e) in
+      (h.all ∙ ap (length {A = ℕ}) same, subst (Appends w w') same h.once)
+
+  pub printed_known : IfSome u IsPrinted
+  printed_known =
+      elim h.said.whole [
+        | inl end ↦ Consumes-whole u u' h.said.said.text IsPrinted h.said.read end (prints_as h.said.said.text h.said.said.says)
+        | inr rest ↦ of_front u u' h.said.said.text IsPrinted h.said.read (λ more. prints_as (h.said.said.text ++ more) (rest more))
+      ]

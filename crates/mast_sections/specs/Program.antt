@@ -1,14 +1,16 @@
 -- The program that runs guarded sections from a text: what it prints.
-use Rattle.std.specs.Prelude.{◌≡◌, List, [], ℕ, length, take, replicate}
+use Rattle.std.specs.Prelude.{◌≡◌, List, [], ℕ, Option, Result, OnOk, OnErr, length, take, replicate}
+use Rattle.std.specs.Io.KnownBytes.{Appends}
 use Rattle.tables.specs.Layout.{tables_length}
 use Rattle.runner.specs.Reply.{run_reply}
 use Rattle.report.specs.Report.{report_text}
 use Rattle.outcome.specs.Outcome.{report_after}
 use Rattle.text.specs.Reading.{Reading, Room, Outcome, read_text}
 use Rattle.text.specs.Reading.Outcome.{Says, Fault}
-use Rattle.text.specs.Feeding.{Lent}
+use Rattle.text.specs.Feeding.{Lent, Kept}
 use Rattle.mast_sections.specs.declared.Ended.{Ended}
-use Rattle.mast_sections.specs.declared.Ended.TheVariants.{Handed, Unread}
+use Rattle.mast_sections.specs.declared.Ended.TheVariants.{Handed, Unread, Unended}
+use Rattle.mast_sections.specs.Taken.{ReadSoFar, SaidByAll}
 
 -- 1024 cells, 8192 lines of scripts, sections and steps at four numbers each, and 655360 numbers of events
 abbrev pub room : Room
@@ -47,7 +49,48 @@ pub record Prints (n : ℕ) : Type 0 where
   pub text : List ℕ
   pub all : n ≡ length (program text)
 
--- unless the text could not be read
+-- unless the text could not be read, or had no end
 abbrev pub Ran : Ended → Type 0
 Ran (Handed n) = Prints n
-Ran Unread = Unit {0}
+Ran (Unread e) = Unit {0}
+Ran Unended = Unit {0}
+
+-- ---- to a writer, from a reader
+
+-- what is written grows by a front of these bytes, and by nothing else
+abbrev pub AppendsFront : (written written' : Option (List ℕ)) → List ℕ → Type 0
+AppendsFront written written' said = (n : ℕ) × Appends written written' (take n said)
+
+-- all that is said is written, once; where writing fails a front of it
+abbrev pub Writes : {T E : Type 0} → Result T E → (written written' : Option (List ℕ)) → List ℕ → Type 0
+Writes r written written' said = OnOk r (Appends written written' said) × OnErr r (AppendsFront written written' said)
+
+-- what the program prints of what there was to read is written, once
+pub record Handing (n : ℕ) (unread unread' written written' : Option (List ℕ)) : Type 0 where
+  pub what : Outcome
+  pub said : SaidByAll room what unread unread'
+  pub all : n ≡ length (printed_of what)
+  pub once : Appends written written' (printed_of what)
+
+-- where writing fails a front of it
+pub record Failing (unread unread' written written' : Option (List ℕ)) : Type 0 where
+  pub what : Outcome
+  pub said : SaidByAll room what unread unread'
+  pub front : AppendsFront written written' (printed_of what)
+
+-- nothing is written of a text that could not be read, or had no end
+pub record Leaving (unread unread' written written' : Option (List ℕ)) : Type 0 where
+  pub kept : Kept
+  pub read : ReadSoFar room kept unread unread'
+  pub none : Appends written written' []
+
+abbrev pub Answers : Ended → (unread unread' written written' : Option (List ℕ)) → Type 0
+Answers (Handed n) unread unread' written written' = Handing n unread unread' written written'
+Answers (Unread e) unread unread' written written' = Leaving unread unread' written written'
+Answers Unended unread unread' written written' = Leaving unread unread' written written'
+
+-- of a known text: all that the program prints of it, once, or nothing
+abbrev pub Printed : Ended → List ℕ → (written written' : Option (List ℕ)) → Type 0
+Printed (Handed n) text written written' = (n ≡ length (program text)) × Appends written written' (program text)
+Printed (Unread e) text written written' = Appends written written' []
+Printed Unended text written written' = Appends written written' []

@@ -1,8 +1,10 @@
-// A text from a descriptor: what each read gives is fed before the next, so that no text is too long to be kept.
-ghost use Rattle.std.specs.Prelude.{◌≡◌, length};
+// A text from a reader: what each read gives is fed before the next, so that no text is too long to be kept.
+ghost use Rattle.std.specs.Prelude.{◌≡◌, ◌≤◌, length};
 ghost use Rattle.text.specs.Feeding.{lent, room_of, kept_of, Ready};
-ghost use Rattle.mast_sections.specs.Taken.{heard_of, Within, more_of, last_of, Does, Fresh, Reached, Takes};
+ghost use Rattle.mast_sections.specs.Taken.{heard_of, Within, more_of, last_of, Does, Fresh, Reached, Takes, Hears, TakesFrom, GoesOn};
 
+use std::io;
+use std::io::{Error, Read};
 use text::At;
 use text::feeding::{Fed, Progress};
 
@@ -11,7 +13,7 @@ use text::feeding::{Fed, Progress};
 pub enum Heard {
     Bytes(usize),
     End,
-    Failed,
+    Failed(Error),
 }
 
 // After a read: more is to come, all is read, the text has a fault, or it could not be read.
@@ -20,26 +22,28 @@ pub enum Taken {
     More(Progress),
     Read(At),
     Wrong { line: u32, fault: u32 },
-    Unread,
+    Unread(Error),
 }
 
-// What a call that read into `input` answered.
-fn heard_of(got: isize, input: &[u8]) -> Heard
+// What a read into `input` answered.
+fn heard_of(got: io::Result<usize>, input: &[u8]) -> Heard
     ensures { result ≡ heard_of got (length input.now) }
 {
-    if got < 0 {
-        return Heard::Failed;
-    }
+    let got = match got {
+        Ok(n) => n,
+        Err(e) => return Heard::Failed(e),
+    };
     if got == 0 {
         return Heard::End;
     }
-    Heard::Bytes(io::count(got, input))
+    Heard::Bytes(got.min(input.len()))
 }
 
-fn hear(fd: i32, input: &mut [u8]) -> Heard
-    ensures { Within result input.new }
+fn hear<R: Read>(reader: &mut R, input: &mut [u8]) -> Heard
+    ensures within { Within result input.new }
+    ensures heard { Hears result (R.remaining reader.old) (R.remaining reader.new) input.new }
 {
-    let got = libc::read(fd, input);
+    let got = reader.read(input);
     heard_of(got, input)
 }
 
@@ -67,7 +71,6 @@ fn last(fed: Fed) -> Taken
 // Feeds what a read gave.
 fn take_heard(
     heard: Heard,
-    name: &[u8],
     m: &mut [u8],
     ids: &mut [u32],
     cells: &mut [u32],
@@ -99,17 +102,13 @@ fn take_heard(
             &input[..n],
         )),
         Heard::End => last(text::feeding::finish(m, ids, cells, locals, scripts, events, line, p)),
-        Heard::Failed => {
-            os::fail(name);
-            Taken::Unread
-        }
+        Heard::Failed(e) => Taken::Unread(e),
     }
 }
 
 // Reads once, and feeds what came.
-fn read_some(
-    fd: i32,
-    name: &[u8],
+fn read_some<R: Read>(
+    reader: &mut R,
     m: &mut [u8],
     ids: &mut [u32],
     cells: &mut [u32],
@@ -123,20 +122,24 @@ fn read_some(
     requires { Ready p line.old (lent m.old ids.old cells.old locals.old scripts.old events.old)
         × Reached (room_of (lent m.old ids.old cells.old locals.old scripts.old events.old))
         (kept_of p line.old (lent m.old ids.old cells.old locals.old scripts.old events.old)) }
-    ensures { Takes
+    ensures takes { Takes
         (room_of (lent m.old ids.old cells.old locals.old scripts.old events.old)) result
         line.new (lent m.new ids.new cells.new locals.new scripts.new events.new) }
+    ensures goes_on { 1 ≤ length input.old → GoesOn
+        (room_of (lent m.old ids.old cells.old locals.old scripts.old events.old))
+        (kept_of p line.old (lent m.old ids.old cells.old locals.old scripts.old events.old)) result
+        (R.remaining reader.old) (R.remaining reader.new)
+        line.new (lent m.new ids.new cells.new locals.new scripts.new events.new) }
 {
-    let heard = hear(fd, input);
+    let heard = hear(reader, input);
     take_heard(
-        heard, name, m, ids, cells, locals, scripts, events, line, p, input,
+        heard, m, ids, cells, locals, scripts, events, line, p, input,
     )
 }
 
-// A proved loop has to end, and nothing says that an input does: the reads are counted down from a number that no run uses up.
-pub fn read_text(
-    fd: i32,
-    name: &[u8],
+// A proved loop has to end, and nothing says that an input does: the reads are counted to a number that no run reaches.
+pub fn read_text<R: Read>(
+    reader: &mut R,
     m: &mut [u8],
     ids: &mut [u32],
     cells: &mut [u32],
@@ -147,8 +150,12 @@ pub fn read_text(
     input: &mut [u8],
 ) -> Taken
     requires { Fresh line.old (lent m.old ids.old cells.old locals.old scripts.old events.old) }
-    ensures { Takes
+    ensures takes { Takes
         (room_of (lent m.old ids.old cells.old locals.old scripts.old events.old)) result
+        line.new (lent m.new ids.new cells.new locals.new scripts.new events.new) }
+    ensures read { 1 ≤ length input.old → TakesFrom
+        (room_of (lent m.old ids.old cells.old locals.old scripts.old events.old)) result
+        (R.remaining reader.old) (R.remaining reader.new)
         line.new (lent m.new ids.new cells.new locals.new scripts.new events.new) }
 {
     let at = At {
@@ -162,16 +169,14 @@ pub fn read_text(
         begun: 0,
         count: 0,
     };
-    let mut reads = u64::MAX;
-    while reads > 0 {
+    for _ in 0..u64::MAX {
         let taken = read_some(
-            fd, name, m, ids, cells, locals, scripts, events, line, p, input,
+            reader, m, ids, cells, locals, scripts, events, line, p, input,
         );
         let Taken::More(next) = taken else {
             return taken;
         };
         p = next;
-        reads -= 1;
     }
     Taken::More(p)
 }

@@ -1,27 +1,35 @@
-// The run that was read, and its report on standard output.
-ghost use Rattle.std.specs.Prelude.{◌≡◌, length};
+// The run that was read, and its report to a writer.
+ghost use Rattle.std.specs.Prelude.{◌≡◌, length, IfOk};
 ghost use Rattle.runner.specs.Reply.{run_reply};
 ghost use Rattle.report.specs.Report.{report_text};
 ghost use Rattle.outcome.specs.Outcome.{report_after, Roomy};
 ghost use Rattle.text.specs.Feeding.{lent, reading_of, Inside};
-ghost use Rattle.mast_sections.specs.Program.{printed, HasRoom, Shows};
+ghost use Rattle.mast_sections.specs.Program.{printed, HasRoom, Shows, Writes};
 
-use libc::STDOUT_FILENO;
+use std::io;
+use std::io::{Error, ErrorKind, Write};
 use text::At;
 
-// Writes what is said, and says so where that fails: how many bytes were handed to standard output.
-fn say(said: &[u8]) -> usize
-    ensures { result ≡ length said.now }
+// Writes all of what is said: how many bytes were handed to the writer. On an error a front of it is written.
+fn say<W: Write>(writer: &mut W, said: &[u8]) -> io::Result<usize>
+    ensures count { IfOk result (λ n. n ≡ length said.now) }
+    ensures written { Writes result (W.contents writer.old) (W.contents writer.new) said.now }
 {
-    let is_written = io::write_all(STDOUT_FILENO, said);
-    if !is_written {
-        os::fail(b"standard output");
+    let mut done = 0;
+    while done < said.len() {
+        let n = writer.write(&said[done..])?;
+        if n == 0 {
+            return Err(Error::new(ErrorKind::WriteZero, "failed to write whole buffer"));
+        }
+        done += n;
     }
-    said.len()
+    Ok(done)
 }
 
 // Runs the events, and hands the report on.
-fn show_run(
+#[tactic(auto, using(crate::proofs::Printing::report_fits, crate::proofs::Printing::report_long, crate::proofs::Printing::said_shows, crate::proofs::Printing::report_is, crate::proofs::Printing::writes_as))]
+fn show_run<W: Write>(
+    writer: &mut W,
     m: &mut [u8],
     scripts: &[u32],
     events: &[u32],
@@ -34,11 +42,15 @@ fn show_run(
     plaincells: &mut [u32],
     plainlocals: &mut [u32],
     out: &mut [u8],
-) -> usize
+) -> io::Result<usize>
     requires { Roomy m.old scripts.now cells.old locals.old places.old grants.old tasks.old plaincells.old plainlocals.old out.old }
-    ensures { Shows result (report_text (report_after (run_reply m.old scripts.now events.now ids.now
+    ensures shows { IfOk result (λ n. Shows n (report_text (report_after (run_reply m.old scripts.now events.now ids.now
         cells.old locals.old places.old grants.old)
-        scripts.now cells.old locals.old)) out.new }
+        scripts.now cells.old locals.old)) out.new) }
+    ensures written { Writes result (W.contents writer.old) (W.contents writer.new)
+        (report_text (report_after (run_reply m.old scripts.now events.now ids.now
+        cells.old locals.old places.old grants.old)
+        scripts.now cells.old locals.old)) }
 {
     let n = outcome::answer(
         m,
@@ -54,11 +66,12 @@ fn show_run(
         plainlocals,
         out,
     );
-    say(&out[..n])
+    say(writer, &out[..n])
 }
 
 // Runs what was read, with room of its own for what that leaves.
-pub fn show(
+pub fn show<W: Write>(
+    writer: &mut W,
     m: &mut [u8],
     ids: &[u32],
     cells: &mut [u32],
@@ -66,11 +79,13 @@ pub fn show(
     scripts: &[u32],
     events: &[u32],
     at: At,
-) -> usize
+) -> io::Result<usize>
     requires { Inside at (lent m.old ids.now cells.old locals.old scripts.now events.now)
         × HasRoom (lent m.old ids.now cells.old locals.old scripts.now events.now) }
-    ensures { result ≡ length (printed (reading_of at
-        (lent m.old ids.now cells.old locals.old scripts.now events.now))) }
+    ensures count { IfOk result (λ n. n ≡ length (printed (reading_of at
+        (lent m.old ids.now cells.old locals.old scripts.now events.now)))) }
+    ensures written { Writes result (W.contents writer.old) (W.contents writer.new)
+        (printed (reading_of at (lent m.old ids.now cells.old locals.old scripts.now events.now))) }
 {
     let mut places = [0u32; 16384];
     let mut grants = [0u32; 513];
@@ -82,6 +97,7 @@ pub fn show(
     let of_scripts = at.scripts;
     let of_events = at.events;
     show_run(
+        writer,
         m,
         &scripts[..of_scripts],
         &events[..of_events],
