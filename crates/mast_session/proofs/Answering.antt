@@ -1,5 +1,5 @@
 -- What is said to a text and its end, from a machine that is not started, is the session of the text.
-use Rattle.std.proofs.Common.{◌≡◌, ℕ, List, Ok, Err, Some, None, ap, subst, ◌∙◌, length, replicate}
+use Rattle.std.proofs.Common.{◌≡◌, ℕ, List, Ok, Err, Some, None, ap, subst, ◌∙◌, replicate}
 use Rattle.std.proofs.Math.ListN.{length-replicate}
 use Rattle.std.specs.Prelude.{OnOk, IfSome}
 use Rattle.std.specs.declared.option.Option.{Option}

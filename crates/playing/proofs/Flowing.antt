@@ -1,34 +1,30 @@
 -- Reads and writes one after another: what is read is fed, and what is said to it is written.
-use Rattle.std.proofs.Common.{◌≡◌, ℕ, ◌+◌, ◌-◌, ◌≤◌, ◌⊎◌, inl, inr, Bool, true, false, List, [], ◌∷◌, ◌++◌, Some, None, Ok, Err, refl, ap, sym, subst, ◌∙◌, append_assoc, append-nil, length, take, drop, replicate, arith, length-drop, take-append-drop}
-use Rattle.std.specs.Prelude.{OnOk, OnErr, IfSome, MatchResult}
+use Rattle.std.proofs.Common.{◌≡◌, ℕ, ◌+◌, ◌-◌, ◌≤◌, inl, inr, true, false, List, [], ◌∷◌, ◌++◌, Ok, Err, refl, ap, sym, subst, ◌∙◌, append_assoc, append-nil, length, take, drop, arith, length-drop, take-append-drop}
+use Rattle.std.specs.Prelude.{OnOk, IfSome}
 use Rattle.std.specs.declared.option.Option.{Option}
 use Rattle.std.specs.declared.result.Result.{Result}
 use Rattle.std.specs.declared.io.Error.{Error}
 use Rattle.std.proofs.Math.Seq.{take-append-add, take-add, take_all}
-use Rattle.std.specs.Io.KnownBytes.{Consumes, Appends, IsAtEnd, Keeps, ReadConsumes}
-use Rattle.std.proofs.KnownBytes.{Appends-nil, Appends-trans, Consumes-nil, Consumes-trans, Consumes-kept, Consumes-whole}
+use Rattle.std.specs.Io.KnownBytes.{Consumes, Appends, IsAtEnd}
+use Rattle.std.proofs.KnownBytes.{Appends-nil, Appends-trans, Consumes-nil, Consumes-trans, Consumes-whole}
 use Rattle.laws.proofs.Choose.{never}
 use Rattle.session.specs.Kept.{Kept, keeps, after_part, said_to_part, at_end}
 use Rattle.session.proofs.Feeding.{after_append, said_append}
 use Rattle.playing.specs.declared.Heard.{Heard}
 use Rattle.playing.specs.declared.Heard.TheVariants.{Bytes, End, Failed}
 use Rattle.playing.specs.declared.PlayError.{PlayError}
-use Rattle.playing.specs.declared.PlayError.TheVariants.{Unread, Unwritten}
 use Rattle.playing.specs.declared.State.{State}
 use Rattle.playing.specs.declared.State.TheVariants.{Going, Done, Broken}
 use Rattle.playing.specs.declared.Turn.{Turn}
-use Rattle.playing.specs.Turns.{is_going, is_done, going, done, Turned, Ends, Does}
-use Rattle.playing.specs.Streams.{AppendsFront, WritesAll, Hands, state_after, Hears, said_to_heard, Feeds, said_to_whole, Played, BrokeOff, Goes, fresh, Tells}
+use Rattle.playing.specs.Turns.{is_going, is_done, done, Turned, Does}
+use Rattle.playing.specs.Streams.{AppendsFront, WritesAll, Hands, state_after, Hears, said_to_heard, Feeds, said_to_whole, Played, BrokeOff, Goes, Tells}
 
 -- ---- a front of some bytes
 
 take_none : (n : ℕ) → take {A = ℕ} n [] ≡ []
 take_none n = take_all n [] (omega arith)
 
--- nothing of them
-pub front_none : (a : Option (List ℕ)) (bs : List ℕ) → AppendsFront a a bs
-front_none a bs = (0, Appends-nil a)
-
+-- all of them
 pub front_all : (a b : Option (List ℕ)) (bs : List ℕ) → Appends a b bs → AppendsFront a b bs
 front_all a b bs all = (length bs, subst (Appends a b) (sym (take_all (length bs) bs (omega arith))) all)
 
@@ -84,14 +80,6 @@ module _ (k k' : Kept) (input : List ℕ) (done more : ℕ) (e : k' ≡ after_pa
 
     pub part_front : AppendsFront b c (said_to_part k' (take more rest)) → AppendsFront a c (said_to_part k (take (done + more) input))
     part_front second = subst (AppendsFront a c) said_more (front_after a b c _ _ first second)
-
--- ---- a read
-
-pub hears_end : (a b : Option (List ℕ)) (n : ℕ) (input : List ℕ) → n ≡ 0 → Consumes a b (take n input) → Consumes a b []
-hears_end a b n input e h = subst (λ (j : ℕ). Consumes a b (take j input)) e h
-
-pub hears_failed : (a b : Option (List ℕ)) → Keeps a b → Consumes a b []
-hears_failed a b h = Consumes-kept a a b [] (Consumes-nil a) h
 
 -- ---- a turn: what was read is fed, and what is said to it is written
 

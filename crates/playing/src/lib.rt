@@ -69,7 +69,7 @@ fn write_whole<W: Write>(writer: &mut W, said: &[u8]) -> io::Result<()>
     Ok(())
 }
 
-// Writes what is said, and tells where that fails.
+// Writes what is said, or a front of it where that fails.
 pub fn say<W: Write>(writer: &mut W, said: &[u8]) -> Said
     ensures length { result.length ≡ length said.now }
     ensures written { WritesAll result.ended (W.contents writer.old) (W.contents writer.new) said.now }

@@ -1,10 +1,8 @@
 use Rattle.std.proofs.Common.{ℕ, ◌+◌, ◌-◌, List, length, take, drop, arith, refl, ◌∙◌}
 use Rattle.laws.proofs.Choose.{never}
 use Rattle.session.specs.Kept.{Kept, keeps, said_to_part}
-use Rattle.playing.specs.declared.State.{State}
 use Rattle.playing.specs.declared.State.TheVariants.{Going, Broken}
 use Rattle.playing.specs.declared.Turn.{Turn}
-use Rattle.playing.specs.Turns.{Turned}
 use Rattle.playing.proofs.Turning.{turn, turned_none, turned_more, turned_few, rest_is}
 use Rattle.playing.proofs.Flowing.{handed_none, handed_all, handed_front, part_more, part_front}
 use Rattle.playing.proofs.answer_part.Goals as goal

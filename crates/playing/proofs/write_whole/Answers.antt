@@ -1,4 +1,4 @@
-use Rattle.std.proofs.Common.{◌≡◌, ℕ, ◌-◌, List, length, take, drop, arith, length-drop, ap}
+use Rattle.std.proofs.Common.{ℕ, List, length, arith, length-drop, ap}
 use Rattle.playing.proofs.Flowing.{written_more, rest_of}
 use Rattle.playing.proofs.write_whole.Goals as goal
 
