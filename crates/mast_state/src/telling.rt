@@ -5,12 +5,12 @@ use playing::PlayError;
 use std::io;
 use std::io::Write;
 
-pub fn tell_words(rt: &HostRuntime, words: &[u8]) {
+pub(crate) fn tell_words(rt: &HostRuntime, words: &[u8]) {
     let _ = rt.stderr().write_all(words);
 }
 
 // What failed, and why.
-pub fn tell(rt: &HostRuntime, what: &[u8], error: io::Error) {
+pub(crate) fn tell(rt: &HostRuntime, what: &[u8], error: io::Error) {
     let _ = playing::tell(&mut rt.stderr(), what, error);
 }
 

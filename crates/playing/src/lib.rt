@@ -3,7 +3,8 @@
 // to the writer, and written once with nothing else, or a front of it where a read or a write fails.
 #![tactic(auto)]
 
-ghost use Rattle.std.specs.Prelude.{◌≡◌, true, false, ◌≤◌, length, take, is_ok, OnOk, OnErr, IfSome};
+ghost use Rattle.std.specs.Prelude.{◌≡◌, true, false, ◌≤◌, length, take, is_ok, OnOk, OnErr, IfSome, MatchResult};
+ghost use Rattle.std.specs.Str.{IsUtf8};
 ghost use Rattle.std.specs.Io.KnownBytes.{Appends};
 ghost use Rattle.session.specs.Kept.{keeps, said_to_part, at_end};
 ghost use Rattle.playing.specs.Turns.{going, done, Turned, Answers, Ends, Within, Does, DoesSome, Ran};
@@ -325,7 +326,9 @@ pub fn tell_broken<E: Write>(err: &mut E, name: &[u8], error: PlayError) -> io::
 }
 
 // The text of a file's name, which has to be UTF-8.
-pub fn text_of(path: &[u8]) -> io::Result<&str> {
+pub fn text_of(path: &[u8]) -> io::Result<&str>
+    ensures { MatchResult result (λ text. (text.now ≡ path.now) × IsUtf8 path.now) (λ e. ¬ IsUtf8 path.now) }
+{
     match std::str::from_utf8(path) {
         Ok(text) => Ok(text),
         Err(_) => Err(Error::from(ErrorKind::InvalidFilename)),
@@ -333,7 +336,9 @@ pub fn text_of(path: &[u8]) -> io::Result<&str> {
 }
 
 // Opens the file of this name for reading.
-pub fn open<R: Files>(files: &R, path: &[u8]) -> io::Result<R::File> {
+pub fn open<R: Files>(files: &R, path: &[u8]) -> io::Result<R::File>
+    ensures { OnOk result (IsUtf8 path.now) }
+{
     match text_of(path) {
         Ok(text) => fs::open(files, text),
         Err(error) => Err(error),
