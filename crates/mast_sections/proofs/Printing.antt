@@ -1,4 +1,4 @@
--- What is handed to standard output: the whole report of what was read, which is what the program prints for some text.
+-- What is handed to the writer: the whole report of what was read, which is what the program prints for some text.
 use Rattle.std.proofs.Common.{◌≡◌, ℕ, ◌+◌, ◌-◌, ◌≤◌, List, ◌++◌, Result, Ok, Err, IfOk, Some, None, inl, inr, refl, sym, ap, subst, ◌∙◌, length, take, drop, replicate, arith, length-append, length-drop, length-take-le, take_at, take-add, take_all}
 use Rattle.std.specs.Prelude.{IfSome, OnErr}
 use Rattle.std.proofs.Math.ListN.{length-replicate}

@@ -39,12 +39,12 @@ pub record HasRoom (l : Lent) : Type 0 where
   pub scripts : length l.scripts ≡ 32768
   pub events : length l.events ≡ 655360
 
--- the bytes handed to standard output are the whole report, which stands at the front of the output
+-- the bytes handed to the writer are the whole report, which stands at the front of the output
 pub record Shows (n : ℕ) (report out : List ℕ) : Type 0 where
   pub all : n ≡ length report
   pub front : take n out ≡ report
 
--- as many bytes are handed to standard output as the program prints for some text
+-- as many bytes are handed to the writer as the program prints for some text
 pub record Prints (n : ℕ) : Type 0 where
   pub text : List ℕ
   pub all : n ≡ length (program text)

@@ -12,11 +12,9 @@ ghost use Rattle.mast_sections.specs.Taken.{Fresh};
 ghost use Rattle.mast_sections.specs.Program.{HasRoom, Ran, Answers, Printed, Failing};
 
 use reading::Taken;
-use std::alloc::{AllocError, Global};
 use std::env::{Env, FillError};
-use std::fs::Files;
-use std::io::{Error, ErrorKind, Read, Write};
-use std::{fs, io, str};
+use std::io;
+use std::io::{Error, Read, Write};
 use text::reading as faults;
 
 // Room for what a text says, in numbers. The sentences of `tell_limit` name these limits.
@@ -161,51 +159,24 @@ fn run<R: Read, W: Write, E: Write>(
     )
 }
 
-// What standard error says of an error: the system's words alone, without their number.
-fn reason(alloc: Global, error: &Error) -> Result<String, AllocError> {
-    let text = error.to_string(alloc)?;
-    match text.as_str().split_once(" (os error ") {
-        Some((words, _)) => String::from_str(alloc, words),
-        None => Ok(text),
-    }
-}
-
-// Says on standard error what failed and why.
-fn tell_error<E: Write>(alloc: Global, err: &mut E, what: &[u8], error: &Error) -> io::Result<()> {
-    let words = reason(alloc, error)?;
-    err.write_all(what)?;
-    err.write_all(b": ")?;
-    err.write_all(words.as_bytes())?;
-    err.write_all(b"\n")
-}
-
 // Why the text of this name was not read, or what it says not written.
-fn tell_end<E: Write>(
-    alloc: Global,
-    err: &mut E,
-    name: &[u8],
-    ended: io::Result<Ended>,
-) -> io::Result<()> {
+fn tell_end<E: Write>(err: &mut E, name: &[u8], ended: io::Result<Ended>) -> io::Result<()> {
     match ended {
-        Ok(Ended::Unread(e)) => tell_error(alloc, err, name, &e),
+        Ok(Ended::Unread(e)) => playing::tell(err, name, e),
         Ok(_) => Ok(()),
-        Err(e) => tell_error(alloc, err, b"standard output", &e),
+        Err(e) => playing::tell(err, b"standard output", e),
     }
 }
 
 // The text of the file that the argument names.
 fn run_file(rt: &HostRuntime, path: &[u8]) -> io::Result<()> {
     let mut err = rt.stderr();
-    let Ok(name) = str::from_utf8(path) else {
-        let error = Error::from(ErrorKind::InvalidFilename);
-        return tell_error(rt.alloc(), &mut err, path, &error);
-    };
-    match fs::open(rt, name) {
+    match playing::open(rt, path) {
         Ok(mut file) => {
             let ended = run(&mut file, &mut rt.stdout(), &mut err);
-            tell_end(rt.alloc(), &mut err, path, ended)
+            tell_end(&mut err, path, ended)
         }
-        Err(e) => tell_error(rt.alloc(), &mut err, path, &e),
+        Err(e) => playing::tell(&mut err, path, e),
     }
 }
 
@@ -224,7 +195,7 @@ fn start(rt: &HostRuntime) -> io::Result<()> {
         Err(FillError::NotPresent) => {
             let mut err = rt.stderr();
             let ended = run(&mut rt.stdin(), &mut rt.stdout(), &mut err);
-            tell_end(rt.alloc(), &mut err, b"standard input", ended)
+            tell_end(&mut err, b"standard input", ended)
         }
     }
 }

@@ -53,7 +53,7 @@ Resumes done bs = ((done ≡ false) × (bs ≡ laid unstarted)) ⊎ Resumed done
 
 -- ---- a state file in words
 
--- the bytes handed to standard output are the whole text, which stands at the front of the output
+-- the bytes handed to the writer are the whole text, which stands at the front of the output
 pub record Shows (n : ℕ) (text out : List ℕ) : Type 0 where
   pub all : n ≡ length text
   pub front : take n out ≡ text
