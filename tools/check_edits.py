@@ -24,7 +24,7 @@ EACH_FUNCTION = ("manager",)
 
 # A line of rt for an edit: what became of it, whether only for a name that is gone or a limit, and the first error, of 160 letters.
 TRIED = re.compile(r"rt: must-fail (\w+)/(\S+)\.edit: (refused, as it must be|BAD EDIT|NOT REFUSED|NOT TRIED)( \(only [^)]*\))?(?:: (.*))?$")
-NOT_PROVED = re.compile(r"note: \S+:\d+:\d+: it is not proved that ")
+NOT_PROVED = re.compile(r"note: (?:\./)?(\S+?):(\d+):\d+: it is not proved that ")
 # The first words of an error that are a fact whatever follows, and of one that shows two types or sides, with the first of them as far as it is seen.
 FAILS = re.compile(r"\S+:\d+:\d+: error: `[^`]+`: `(?:search`: no proof of|omega`: the goal does not follow) ")
 SHOWS = re.compile(r"\S+:\d+:\d+: error: `[^`]+`: (?P<how>as printed|computed as far as they go|expected type)(?:, the two (?:types|sides) "
@@ -69,8 +69,8 @@ def changed_definitions(edit):
 
 
 def errors(text):
-    """The errors of a check that are not mere consequences of others; a function without a proof file has its error in a note, which may be
-    a consequence where a lemma was refused."""
+    """The errors of a check that are not mere consequences of others. A goal without an answer has its error in a note: it may only lack a
+    lemma that was refused, or the answer that it had under another name."""
     records = re.split(r"^(?=\S+:\d+:\d+: (?:error|note): |note: |fn |help: |logic)", text, flags=re.M)
     found, open_goals = [], []
     for record in records:
@@ -79,8 +79,8 @@ def errors(text):
             found.append(record)
         elif record.startswith("note: ") and "it is not proved that" in record:
             open_goals.append(record)
-    of_lemmas = [record for record in found if "proofs/" in record.split(":")[0] and not OF_FUNCTION.match(record)]
-    return found if of_lemmas else found + open_goals
+    lacking = any(not OF_FUNCTION.match(record) or UNFIT.search(record.splitlines()[0]) for record in found)
+    return found if lacking else found + open_goals
 
 
 def kind(error, changed):
@@ -104,12 +104,19 @@ def tried(log):
     return {f"{found[1]}/{found[2]}": found.groups()[2:] for found in lines if found}
 
 
+def has_answers(edit, file, line):
+    """Whether the function that stands there has a proof file, or may have one together with others."""
+    folder = ROOT / "crates" / edit.crate
+    names = [function.name.split("::")[-1] for function in functions((folder / file).read_text()) if function.line <= line]
+    return not names or any(any((folder / "proofs").glob(f"**/{name}/*.antt")) for name in (names[-1], "+*"))
+
+
 def is_settled(edit, said):
     """Whether the first error is a fact by itself: a goal that a tactic can't prove, or two types that differ when they are computed; where
-    only code was changed also an open goal, and whatever else is no place in the code."""
-    at = ERROR.match(said)
+    only code was changed also an open goal of a function without answers, and whatever else is no place in the code."""
+    at, open_goal = ERROR.match(said), NOT_PROVED.match(said)
     if not at:
-        return bool(NOT_PROVED.match(said)) and is_of_code(edit)
+        return bool(open_goal) and is_of_code(edit) and not has_answers(edit, open_goal[1], int(open_goal[2]))
     if UNFIT.search(said) or FOLLOWS.match(said, at.end()):
         return False
     shown = SHOWS.match(said)
