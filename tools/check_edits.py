@@ -24,7 +24,7 @@ EACH_FUNCTION = ("manager",)
 
 # A line of rt for an edit: what became of it, whether only for a name that is gone or a limit, and the first error, of 160 letters.
 TRIED = re.compile(r"rt: must-fail (\w+)/(\S+)\.edit: (refused, as it must be|BAD EDIT|NOT REFUSED|NOT TRIED)( \(only [^)]*\))?(?:: (.*))?$")
-NOT_PROVED = re.compile(r"note: (?:\./)?(\S+?):(\d+):\d+: it is not proved that ")
+NOT_PROVED = re.compile(r"note: (?:\./)?(\S+?):(\d+):\d+: (?:it is not proved that |`search` found no proof )")
 # The first words of an error that are a fact whatever follows, and of one that shows two types or sides, with the first of them as far as it is seen.
 FAILS = re.compile(r"\S+:\d+:\d+: error: `[^`]+`: `(?:search`: no proof of|omega`: the goal does not follow) ")
 SHOWS = re.compile(r"\S+:\d+:\d+: error: `[^`]+`: (?P<how>as printed|computed as far as they go|expected type)(?:, the two (?:types|sides) "
@@ -34,14 +34,15 @@ ERROR = re.compile(r"\S+:\d+:\d+: error: ")
 FOLLOWS = re.compile(r"(?:`[^`]*`: )?(?:\d+ declarations? that depends? on `[^`]+`, which was |`[^`]+` was not admitted )")
 # Of a proof that no longer fits: what it names is gone, or what it rewrites stands no longer where it did.
 UNFIT = re.compile(r"that can be named from here|has no (?:field|member|constructor|clause|case|`)|not in scope|takes? \d+ arguments?"
-                   r"|`rw`: no occurrence of ")
+                   r"|`rw`: no occurrence of |record `[^`]+` \(nearest: ")
 DIFFER = re.compile(r"the two (?:types|sides) .*?where one has `(.*?)`.*?the other has `(.*?)`", re.S)
+TYPES = re.compile(r"expected type `([^`]*)`,?\s+but this has type `([^`]*)`")
 COMPUTED = re.compile(r"computed as far as they go, the two (?:types|sides) (?:(?:first )?differ|are) |neither could be computed")
 SAME = re.compile(r"the first \d+ bytes of the two (?:types|sides) are identical")
 # A place in the code, as the proof files name it: the code between two such places has another shape.
-PLACE = re.compile(r"\bLts\.[A-Z]")
+PLACE = re.compile(r"\b[Ll]ts\.[A-Z]|\A\W*(?:After|Then|Else|In|Start)\b")
 # What may be one, or be of one, in a line that is cut.
-MAYBE_PLACE = re.compile(r"\bLts\.|\bgoal\.|\btie\.|\.proofs\.")
+MAYBE_PLACE = re.compile(r"\b[Ll]ts\.|\bgoal\.|\btie\.|\.proofs\.|`(?:After|Then|Else|In|Start)\b")
 # The proof of a function, in a folder of its own; any other file of proofs/ has lemmas.
 OF_FUNCTION = re.compile(r"(?:\./)?proofs/(?:[^/]+/)*[+a-z][^/]*/(?:Proof|Invariants|Answers)\.antt:")
 
@@ -77,7 +78,7 @@ def errors(text):
         at = ERROR.match(record)
         if at and not FOLLOWS.match(record, at.end()):
             found.append(record)
-        elif record.startswith("note: ") and "it is not proved that" in record:
+        elif NOT_PROVED.match(record):
             open_goals.append(record)
     lacking = any(not OF_FUNCTION.match(record) or UNFIT.search(record.splitlines()[0]) for record in found)
     return found if lacking else found + open_goals
@@ -87,7 +88,7 @@ def kind(error, changed):
     if UNFIT.search(error.splitlines()[0]):
         return "unfit"
     ends = DIFFER.search(error)
-    if ends and all(map(PLACE.search, ends.groups())):
+    if any(all(map(PLACE.search, pair.groups())) for pair in (ends, TYPES.search(error)) if pair):
         return "unfit"
     if SAME.search(error) and changed:
         return "quoted"
@@ -107,7 +108,10 @@ def tried(log):
 def has_answers(edit, file, line):
     """Whether the function that stands there has a proof file, or may have one together with others."""
     folder = ROOT / "crates" / edit.crate
-    names = [function.name.split("::")[-1] for function in functions((folder / file).read_text()) if function.line <= line]
+    lines = (folder / file).read_text().splitlines()
+    while lines[line - 1:line] and lines[line - 1].lstrip().startswith("#["):
+        line += 1
+    names = [function.name.split("::")[-1] for function in functions("\n".join(lines)) if function.line <= line]
     return not names or any(any((folder / "proofs").glob(f"**/{name}/*.antt")) for name in (names[-1], "+*"))
 
 

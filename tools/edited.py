@@ -2,8 +2,9 @@
 
 edited.py CRATE/LABEL..      prints it, of these edits
 
-As rt tries an edit: over the libraries as rt ci or rt check left them, and over what a check of the crate as it stands proved. It is kept in
-build/edits, and not asked for again while nothing that it stands on has changed."""
+As rt tries an edit: over the libraries as rt ci or rt check left them, and over what a check of the crate as it stands proved. Where the edit
+writes a test otherwise, once more, with the answers under the names that the goals then have. It is kept in build/edits, and not asked for
+again while nothing that it stands on has changed."""
 import concurrent.futures
 import hashlib
 import os
@@ -18,6 +19,10 @@ from sources import PARTS, ROOT, below, is_noted, sum_of, uses
 from staticlib import KIT, rlib
 
 KEPT = ROOT / "build/edits"
+# Goals and places are named by the tests that lead there, as the code has them: `returns-then-digits-gt0`, `c.if-digits-gt0`.
+TEST = re.compile(r"(?<!\w)(?:then|else|if)-((?:(?!-clause-)[^\s`+.,;:()|])+)")
+GONE = re.compile(r"has no (?:field )?`([^`]+)`")
+OPEN = re.compile(r"it is not proved that .*?\(`([^`]+)`\)|\(nearest: ([^,)\s]+)")
 
 
 class Edit:
@@ -58,7 +63,28 @@ def words(name):
     return found + ["--antt-project", KIT / "rattle/logic/antt-project.json", "--logic-built", KIT / "logic_built", "--jobs", "1"]
 
 
-def checked(name, changes, over):
+def renames(said):
+    """The tests that an edit writes otherwise: by what a check says is gone, as the proof files name it, and by what is open or nearest in its place."""
+    tests = lambda found: list(dict.fromkeys(test for name in found for test in TEST.findall(name)))
+    gone, new = tests(GONE.findall(said)), tests("".join(pair) for pair in OPEN.findall(said))
+    found, alike = {}, lambda old, it: len(os.path.commonprefix([old, it]))
+    for old in gone:
+        left = [it for it in new if it not in gone and it not in found.values()]
+        if left and old not in new:
+            found[old] = max(left, key=lambda it: alike(old, it))
+    return found
+
+
+def rename(folder, tests):
+    """Writes the new tests into the proof files of functions, so that an answer meets the goal that has another name by the edit."""
+    for path in [*folder.glob("proofs/**/Answers.antt"), *folder.glob("proofs/**/Invariants.antt")]:
+        text = path.read_text()
+        for old, new in tests.items():
+            text = re.sub(rf"(?<!\w)((?:[Tt]hen|[Ee]lse|if)-){re.escape(old)}(?!\w|-(?!clause-))", lambda it: it[1] + new, text)
+        path.write_text(text)
+
+
+def checked(name, changes, over, tests={}):
     """A check of a copy of a crate with changes, begun with what stands in the folder `over` and kept there, or from nothing."""
     with tempfile.TemporaryDirectory(prefix="edit-") as made:
         for part in PARTS:
@@ -67,6 +93,7 @@ def checked(name, changes, over):
         for file, old, new in changes:
             path = pathlib.Path(made) / file
             path.write_text(path.read_text().replace(old, new))
+        rename(pathlib.Path(made), tests)
         command = [KIT / "bin/rattle", "check", *words(name), *(["--incremental", over] if over else [])]
         return subprocess.run(command, cwd=made, stdin=subprocess.DEVNULL, stdout=subprocess.PIPE, stderr=subprocess.STDOUT, text=True, errors="replace")
 
@@ -99,7 +126,10 @@ def text(edit, seeds):
     over = seeds[edit.crate] and seeds[edit.crate].with_name(f"{edit.crate}.{edit.label}")
     if over:
         linked(seeds[edit.crate], over)
-    log.write_text(checked(edit.crate, edit.changes, over).stdout)
+    said = checked(edit.crate, edit.changes, over).stdout
+    if tests := renames(said):
+        said = checked(edit.crate, edit.changes, over, tests).stdout
+    log.write_text(said)
     shutil.rmtree(over or "", ignore_errors=True)
     stamp.write_text(edit.sum())
 
