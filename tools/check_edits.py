@@ -106,13 +106,14 @@ def tried(log):
 
 
 def has_answers(edit, file, line):
-    """Whether the function that stands there has a proof file, or may have one together with others."""
+    """Whether the function that stands there has a proof file, or may have one together with others of its module."""
     folder = ROOT / "crates" / edit.crate
     lines = (folder / file).read_text().splitlines()
     while lines[line - 1:line] and lines[line - 1].lstrip().startswith("#["):
         line += 1
     names = [function.name.split("::")[-1] for function in functions("\n".join(lines)) if function.line <= line]
-    return not names or any(any((folder / "proofs").glob(f"**/{name}/*.antt")) for name in (names[-1], "+*"))
+    module = "" if pathlib.Path(file).stem in ("lib", "main") else f"{pathlib.Path(file).stem}/"
+    return not names or any(any((folder / "proofs").glob(f"{it}/*.antt")) for it in (f"**/{names[-1]}", f"{module}+*"))
 
 
 def is_settled(edit, said):
