@@ -18,7 +18,7 @@ from sources import ROOT
 
 # Crates with entry points: each has an edit at least.
 ENTRIES = ("manager", "capi", "session", "playing", "mast_session", "runner", "capi_run", "mast_sections", "state", "capi_state",
-           "mast_state", "itron_calls", "capi_itron")
+           "mast_state", "itron_calls", "capi_itron", "records", "records_c")
 # Crates in which each public function has an edit: one inside it, or one whose first lines have its name in backticks.
 EACH_FUNCTION = ("manager",)
 
