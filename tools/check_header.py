@@ -110,10 +110,10 @@ def standard_wait():
 
 def run():
     """The numbers of mast_run: kinds by the words of steps and calls, limits, and the room that is enough."""
-    kind, chosen = tested(r"r\.kind"), r"(\d+)\) \((\w+)"
-    kinds = {"SCRIPT": literals("begins_script", kind)[0], "SECTION": literals("begins_section", kind)[0]}
-    kinds |= {word.upper(): int(n) for n, word in re.findall(kind + chosen, body("step_of", "encoding"))}
-    events = {word.upper(): int(n) for n, word in re.findall(tested("kind") + chosen, body("call_of", "encoding"))}
+    kind, chosen = tested("kind"), r"(\d+)\) \((\w+)"
+    kinds = {word.upper(): int(n) for n, word in re.findall(kind + r"(\d+)\) \(Begins(\w+)", body("row_in", "encoding"))}
+    kinds |= {word.upper(): int(n) for n, word in re.findall(kind + r"(\d+)\) \(Some \(Row(\w+)", body("step_in", "encoding"))}
+    events = {word.upper(): int(n) for n, word in re.findall(kind + chosen, body("call_of", "encoding"))}
     events |= {"TURN": literals("event_at", tested("slice_index ns 0"))[0], "TICK": max(literals("size_of", tested("kind")))}
     sections, steps, cells = (literals("limits_fit", rf"\.{what}\) ")[0] for what in ("sections", "steps", "cells"))
     tasks, row = number("max_tasks"), only(set(literals("rows_of", r"length ns / ")))

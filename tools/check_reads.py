@@ -1,6 +1,6 @@
 """Follows the lent bytes from ident's functions down, and fails unless they lead to the words of slots by one way, with each step at one place and
-the two functions at its end as they were read: so that what the last one counts is every look at a slot, none of them twice. The test for 25 is
-not followed. The next task, which an answer names behind the search, is followed by itself: it has no part in the search, and reads of slots
+the two functions at its end as they were read: so that what the last one counts is every look at a slot, none of them twice. A view of the
+bytes counts as the bytes, and its methods as the functions of tables that they hand them to. The test for 25 is not followed. The next task, which an answer names behind the search, is followed by itself: it has no part in the search, and reads of slots
 one for each task, that which it waits on or, where it waits on none, the last. What this can't see, a reader sees in the functions that it names.
 
 check_reads.py           says the way
@@ -21,11 +21,17 @@ LENT = {
     "lookup::working::lends_to": ["lookup::working::load_lenders"], "lookup::slot_named": ["lookup::working::lends_to"],
     "tables::load_head": ["lookup::working::lends_to"], "tables::slot_live": ["lookup::slot_named"], "tables::slot_generation": ["lookup::slot_named"],
 }
-SLOT_READERS = {"tables::load_head", "tables::slot_live", "tables::slot_generation"}
-# The words that are read: by slot_word that of a slot, and by the others N, S and, for the next task, the sequence and the tasks.
-WORDS = {
-    SLOT: "SLOTS_AT + SLOT_WORDS * i + k", "tables::task_count": "0", "tables::slot_count": "1", "tables::ready_count": "READY_AT",
-    "tables::ready_entry": "SEQUENCE_AT + k", "tables::task_word": "TASKS_AT + TASK_WORDS * i + k",
+SLOT_READERS = {"tables::slot_live", "tables::slot_generation"}
+# The places that are read: by slot_word a word of a slot, by the others N, S and, for the next task, the sequence, and rows: a task and the head
+# of a slot.
+ROW, RECORD, VIEW = "tables::record::load_row", "tables::record::load", "tables::view"
+PLACES = {
+    WORD: {
+        SLOT: "SLOTS_AT + SLOT_WORDS * i + k", "tables::task_count": "0", "tables::slot_count": "1", "tables::ready_count": "READY_AT",
+        "tables::ready_entry": "SEQUENCE_AT + k", ROW: "at + k",
+    },
+    ROW: {RECORD: "at"},
+    RECORD: {"tables::load_task": "TASKS_AT + TASK_WORDS * i", "tables::load_head": "SLOTS_AT + SLOT_WORDS * i"},
 }
 # The search and its look, as they were read: it begins once with no look, and goes on by looks behind the last alone.
 READ = {
@@ -33,8 +39,10 @@ READ = {
     LOOK: "let i = last.count as usize; Look { count: last.count + 1, generation: tables::slot_generation(m, i), live: tables::slot_live(m, i), "
           "name: tables::slot_name(m, i), }",
 }
-HEAD = re.compile(r'(?:pub )?(?:extern "C" )?fn (\w+)\(')
-BYTES = re.compile(r"(\w+): &(?:mut )?\[u8\]")
+HEAD = re.compile(r'(?:pub )?(?:extern "C" )?fn (\w+)(?:<[^(]*>)?\(')
+BYTES = re.compile(r"(\w+): (?:&(?:mut )?\[u8\]|View<'_>)")
+# A view's method, which hands its bytes and its own arguments to a function of tables.
+METHOD = re.compile(r"^    pub fn (\w+)\(self((?:, \w+: \w+)*)\) -> \w+\n(?:        .*\n)*?    \{\n        super::(\w+)\(self\.bytes((?:, \w+)*)\)\n    \}$", re.M)
 LOOP = re.compile(r"\b(?:while|for|loop)\b")
 
 
@@ -55,7 +63,8 @@ def resolved(name, module, text):
     """A called name in full: through `super`, a `use`, a module beside it or a crate."""
     first, *rest = name.split("::")
     if not rest:
-        return f"{module}::{name}"
+        used = re.search(rf"^(?:pub )?use (\w+)::\{{(?:\w+, )*{name}(?:, \w+)*\}};", text, re.M)
+        return f"{module}::{used[1]}::{name}" if used else f"{module}::{name}"
     if first == "super":
         return "::".join([module.rsplit("::", 1)[0], *rest])
     if used := re.search(rf"^use ((?:\w+::)+{first});", text, re.M):
@@ -66,10 +75,14 @@ def resolved(name, module, text):
 class Function:
     """A function with lent bytes: whom it hands them to, one for each place, and how it uses them otherwise."""
 
-    def __init__(self, module, parameters, body, text):
-        self.body = " ".join(re.sub(r"//.*", "", body).split())
+    def __init__(self, module, parameters, body, text, views):
         self.lent = BYTES.findall(parameters)
         m = self.lent[0]
+        body = re.sub(r"::<[^<>()]*>", "", re.sub(r"//.*", "", body))
+        body = re.sub(r"\bView::new\((\w+)\)", r"\1", body)
+        for method, read in views.items():
+            body = re.sub(rf"\b{m}\.{method}\((\)?)", lambda end: f"tables::{read}({m}" + (end[1] or ", "), body)
+        self.body = " ".join(body.split())
         places = [place for found in re.finditer(rf"\b{m}\b", self.body) if (place := self.place(*found.span()))]
         self.handed = [resolved(name, module, text) for name, _ in places]
         self.others = len(re.findall(rf"\b{m}\b", self.body)) - len(places)
@@ -84,7 +97,7 @@ class Function:
         while depth or self.body[at] != "(":
             depth += {")": 1, "(": -1}.get(self.body[at], 0)
             at -= 1
-        name = re.search(r"(?:^|[^\w:.])([a-z][\w:]*)$", self.body[:at])
+        name = re.search(r"(?:^|\.\.|[^\w:.])([a-z][\w:]*)$", self.body[:at])
         depth, end = 0, 0
         while depth or after[end] != ")":
             depth += {"(": 1, ")": -1}.get(after[end], 0)
@@ -108,10 +121,11 @@ def split(text):
 def functions(texts):
     """Every function with lent bytes, by its path. One that is laid out otherwise than all others is not known."""
     found = {}
+    views = {name: read for name, asked, read, given in METHOD.findall(texts[VIEW]) if re.sub(r": \w+", "", asked) == given}
     for module, text in texts.items():
         for name, parameters, body in split(text):
             if BYTES.search(parameters):
-                found[f"{module}::{name}"] = None if body is None else Function(module, parameters, body, text)
+                found[f"{module}::{name}"] = None if body is None else Function(module, parameters, body, text, views)
     return found
 
 
@@ -133,10 +147,11 @@ def followed(known, root):
 
 
 def check_words(known, reached):
-    """The words that are read are the known ones, each once."""
+    """The words and rows that are read are the known ones, each once."""
     for name in reached:
-        if WORD in known[name].handed and (known[name].handed != [WORD] or known[name].behind != [WORDS.get(name)]):
-            raise Fault(f"{name} reads another word than it is known to")
+        for read, places in PLACES.items():
+            if read in known[name].handed and (known[name].handed != [read] or known[name].behind != [places.get(name)]):
+                raise Fault(f"{name} reads another place than it is known to")
 
 
 def check_next(known):
@@ -193,12 +208,12 @@ LOOKED = "        last = next_look(m, last);\n"
 MATCHED = "            return last;\n"
 NAMED = "tables::slot_name(m, i)"
 CALLED = "    calls::ident::ident(m, name)\n"
-FOUND = "    let sought = search(m, name);\n    sought.done"
-LENDERS = "    let lenders = working::load_lenders(m);\n"
-HEAD_READ = "    let s = tables::load_head(m, place as usize);\n"
+FOUND = "    search(m, name).done"
+LENDERS = "    let lenders = working::load_lenders(v);\n"
+HEAD_READ = "    let s = v.head(place as usize);\n"
 WRONG = {
     "the search begins again for the identifier": ("calls::ident", COUNTED, COUNTED + SEARCHED),
-    "the match is looked at again": ("calls::ident", "Done(0, last.generation *", "Done(0, tables::slot_generation(m, looked as usize - 1) *"),
+    "the match is looked at again": ("calls::ident", "last.generation * rules", "tables::slot_generation(m, looked as usize - 1) * rules"),
     "the search goes on behind its match": ("lookup::looks", MATCHED, "            next_look(m, last);\n" + MATCHED),
     "the search starts over": ("lookup::looks", LOOKED, "        if last.count == 5 { last = none(); }\n" + LOOKED),
     "a look reads its slot's name twice": ("lookup::looks", NAMED, f"{NAMED} + 0 * {NAMED}"),
@@ -209,10 +224,10 @@ WRONG = {
     "the whole call is made twice": ("manager", CALLED, "    calls::ident::ident(m, name);\n" + CALLED),
     "the test is made again": ("manager", CALLED, "    agreement::is_agreeing(m);\n" + CALLED),
     "the step searches twice": ("calls::ident", FOUND, "    search(m, name);\n" + FOUND),
-    "the next task searches": ("lookup", LENDERS, "    looks::search(m, tables::slot_count(m), 7);\n" + LENDERS),
-    "the next task reads a slot for no task": ("lookup", LENDERS, "    tables::load_head(m, 0);\n" + LENDERS),
-    "the slot of a wait is read twice": ("lookup::working", HEAD_READ, HEAD_READ + "    tables::load_head(m, place as usize);\n"),
-    "the step asks for the next task": ("calls::ident", FOUND, "    lookup::next_task(m);\n" + FOUND),
+    "the next task searches": ("lookup", LENDERS, "    looks::search(v, v.slot_count(), 7);\n" + LENDERS),
+    "the next task reads a slot for no task": ("lookup", LENDERS, "    v.head(0);\n" + LENDERS),
+    "the slot of a wait is read twice": ("lookup::working", HEAD_READ, HEAD_READ + "    v.head(place as usize);\n"),
+    "the step asks for the next task": ("calls::ident", FOUND, "    lookup::next_task(View::new(m));\n" + FOUND),
     "others can look too": ("lookup::looks", "\nfn next_look(", "\npub fn next_look("),
 }
 

@@ -9,10 +9,10 @@ import re
 from exported import WIDTHS
 
 R = r"%[ra]\d+"
-DEFINED = re.compile(r'define internal .*@"([\w:]+)"\((.*)\) #0 \{')
+DEFINED = re.compile(r'define internal .*@"([^"]+)"\((.*)\) #0 \{')
 ALLOCA = re.compile(rf"  ({R}) = alloca .*, align (\d+)")
 OFFSET = re.compile(rf"  ({R}) = getelementptr (?:inbounds nuw )?i8, ptr ({R}), i64 (\d+)")
-CALL = re.compile(r'  (?:%r\d+ = call (?:\w+|\{ \w+, \w+ \})|call void) @"([\w:]+)"\((.*)\)')
+CALL = re.compile(r'  (?:%r\d+ = call (?:\w+|\{ \w+, \w+ \})|call void) @"([^"]+)"\((.*)\)')
 COPY = re.compile(rf"(  call void @llvm\.memmove\.p0\.p0\.i64\()ptr ({R}), ptr ({R}), (.*)")
 MOST = 8
 

@@ -46,7 +46,9 @@ EDITS = {
     "an array that is not empty": first(r"(?=\ndefine)", '\n@static.7 = private unnamed_addr constant [2 x i8] zeroinitializer, align 4\n'),
     "an empty array that is read": first(r"(  ret void)", r"  %r900 = load i32, ptr @static.0, align 4\n\1"),
     "a pair with a pointer in it": first(r"= load \{ i(?:8|32), i32 \}", "= load { ptr, i32 }"),
-    "a pair with a number of 64 bits": first(r"ret \{ i(?:8|32), i32 \}", "ret { i32, i64 }"),
+    "a pair of pointers": first(r"ret \{ i(?:8|32), i32 \}", "ret { ptr, ptr }"),
+    "a pair with a number of 128 bits": first(r"ret \{ i(?:8|32), i32 \}", "ret { i32, i128 }"),
+    "three that come back together": first(r"ret \{ i(?:8|32), i32 \}", "ret { i32, i32, i32 }"),
     "a pair that is part of a pointer": first(r"(  store ptr %\w+, ptr (%r\d+), align 8\n)", r"\1  %r900 = load { i32, i32 }, ptr \2, align 4\n"),
     "a global": first(r"(?=\ndefine)", "\n@words = private constant [2 x i32] [i32 1, i32 2]\n"),
     "another data layout": first(r"-i64:64", "-i64:32"),
@@ -128,6 +130,8 @@ def main():
     passed = [what for what, edit in EDITS.items() if not refused(lambda: retargeted(crate, edit(text), LAYOUT, TRIPLE))]
     if not refused(lambda: retargeted(crate, text, LAYOUT.replace("p:32:32", "p:64:64"), TRIPLE)):
         passed.append("a processor with pointers of 64 bits")
+    if not refused(lambda: retargeted(crate, text, LAYOUT.replace("i64:64", "i64:32"), TRIPLE)):
+        passed.append("a processor with numbers of 64 bits aligned to 4")
     source = '#[unsafe(no_mangle)]\npub extern "C" {} {{'
     passed += [kind for kind in TYPES if not refused(lambda: functions("capi", source.format(f"fn f({kind}) -> u32")))]
     words = lambda count: ([(f"f{at}", "u32", 4 * at) for at in range(count)], 4 * count)
@@ -142,7 +146,7 @@ def main():
         print(f"not known: what rattle makes of {head}")
     if passed or unmatched or copies != ALIGNED:
         sys.exit(1)
-    print(f"{crate}: {len(EDITS) + 1 + len(TYPES)} unknown forms refused, {len(WRAPPERS)} kinds of functions known")
+    print(f"{crate}: {len(EDITS) + 2 + len(TYPES)} unknown forms refused, {len(WRAPPERS)} kinds of functions known")
 
 
 if __name__ == "__main__":

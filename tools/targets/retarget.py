@@ -13,17 +13,19 @@ R = r"%[ra]\d+"
 INT = r"i(?:1|8|16|32|64)"
 VALUE = rf"(?:{R}|-?\d+|true|false)"
 LABEL = r"label %[a-z]+(?:\.\d+)?"
-NAME = r'@"[A-Za-z_][\w:]*"'
+NAME = r'@"[A-Za-z_][^"\\]*"'
 ARGUMENT = rf"(?:ptr {R}|{INT} {VALUE})"
 ALIGN = r"align [1248]"
-# Two numbers that come back together. In memory the second is at 4, since a number of 32 bits is aligned to 4 everywhere.
-PAIR = r"\{ i(?:8|32), i32 \}"
+# Two that come back together: numbers, a pointer and a length, or a number and a pointer. In memory the second stands at the next multiple
+# of its own width, a pointer's being 8 as on x86-64, and a number of 64 bits is aligned to 8 on the processors that are known here. What is
+# read at once with a pointer in second place is read part by part instead (`apart`), since there a pointer of 32 bits would be looked for at 4.
+PAIR = r"\{ (?:ptr, i64|i(?:8|16|32|64), (?:ptr|i(?:8|16|32|64))) \}"
 # The place of an empty array, of which no byte is ever read.
 EMPTY = r"@static\.\d+"
 
 # The lines of a function. No number becomes a pointer and no pointer a number, and copies and fills have a fixed length.
 BODY = (
-    r"", r"start:", r"[a-z]+\.\d+: +; preds = .*",
+    r"", r"start:", r"[a-z]+\.\d+: +; (?:preds = .*|No predecessors!)",
     rf"  {R} = alloca (?:{INT}|ptr|\[\d+ x i8\]), {ALIGN}",
     rf"  {R} = load {INT}, ptr {R}, {ALIGN}(?:, !range !\d+)?(?:, !noundef !\d+)?",
     rf"  {R} = load ptr, ptr {R}, align 8, !noundef !\d+",
@@ -62,6 +64,17 @@ OFFSET = re.compile(rf"  ({R}) = getelementptr .*ptr ({R}), i64 (\d+)")
 ACCESS = re.compile(rf"  (?:{R} = load|store) ({INT}|ptr|{PAIR})(?: (?:{VALUE}|{EMPTY}))?, ptr ({R}),")
 
 
+def parts_of(kind):
+    """The parts of what is read or written at once: each one's place, its length, and whether it is a pointer."""
+    parts, at = [], 0
+    for part in kind.strip("{ }").split(", "):
+        size = 8 if part == "ptr" else -(-int(part[1:]) // 8)
+        at = -(-at // size) * size
+        parts.append((at, size, part == "ptr"))
+        at += size
+    return parts
+
+
 def check_pointers(function, lines):
     """No byte of a place that holds a pointer is read or written as part of a number: of its 8 bytes a 32-bit pointer fills 4."""
     places, held = {}, set()
@@ -71,8 +84,7 @@ def check_pointers(function, lines):
             places[found[1]] = base, offset + int(found[3])
         elif found := ACCESS.match(line):
             base, offset = places.get(found[2], (found[2], 0))
-            size = 8 if found[1] == "ptr" or found[1][0] == "{" else -(-int(found[1][1:]) // 8)
-            held |= {(base, offset + at, found[1] == "ptr") for at in range(size)}
+            held |= {(base, offset + at + n, pointer) for at, size, pointer in parts_of(found[1]) for n in range(size)}
     for base, at, _ in sorted(held):
         if {(base, at, True), (base, at, False)} <= held:
             raise Unknown(f"byte {at} of {base} belongs to a pointer and to a number, in {function}")
@@ -104,14 +116,31 @@ def without_wrappers(text, functions):
     return text
 
 
+def plainly_named(text):
+    """The module with names that every assembler reads, which stay different."""
+    names = {name: re.sub(r"[^\w.]+", "_", name[2:-1].replace("::", ".")) for name in set(re.findall(NAME, text))}
+    if len(set(names.values())) < len(names):
+        raise Unknown("two functions would have one name")
+    return re.sub(NAME, lambda name: "@" + names[name[0]], text)
+
+
+def apart(found):
+    """A number and a pointer behind it, read one after the other."""
+    name, kind, place = found[1], found[2], found[3]
+    return (f"  {name}.n = load {kind}, ptr {place}, align 8\n  {name}.at = getelementptr i8, ptr {place}, i64 8\n"
+            f"  {name}.p = load ptr, ptr {name}.at, align 8\n  {name}.w = insertvalue {{ {kind}, ptr }} poison, {kind} {name}.n, 0\n"
+            f"  {name} = insertvalue {{ {kind}, ptr }} {name}.w, ptr {name}.p, 1")
+
+
 def retargeted(crate, text, layout, triple):
     """The module for the processor with this layout and triple, the proved functions below the exported ones named CRATE_NAME."""
     functions = functions_of(crate)
     text = without_wrappers(text, functions)
     check(text)
     text = aligned(text, functions)
-    if not re.search(r'"e-.*\bp:32:32-', layout):
-        raise Unknown(f"only processors with 32-bit pointers, low byte first, are known, not {layout}")
+    text = re.sub(rf"^  ({R}) = load \{{ ({INT}), ptr \}}, ptr ({R}), align 8$", apart, text, flags=re.M)
+    if not re.search(r'"e-.*\bp:32:32-(?:.*-)?i64:64-', layout):
+        raise Unknown(f"only processors with 32-bit pointers, low byte first, and numbers of 64 bits aligned to 8 are known, not {layout}")
     for old, new in ((r"target datalayout = .*", layout), (r"target triple = .*", triple)):
         text = re.sub(old, new, text)
     text = text.replace(X86, "attributes #0 = { nounwind optsize }")
@@ -120,7 +149,7 @@ def retargeted(crate, text, layout, triple):
             text = text.replace("\ndeclare ", f"{function.bridge()}\ndeclare ", 1)
         else:
             text = text.replace(f"define internal {function.given()} {function.inner_name()}", f"define hidden {function.given()} @{function.raw_name()}")
-    text = re.sub(NAME, lambda name: "@" + name[0][2:-1].replace("::", "."), text)  # as every assembler reads it
+    text = plainly_named(text)
     # Each call, and an obtain's and a tick's step, keeps a frame of its own: taken into the one function that serves them all, they would add up.
     kept = r"calls\.(\w+)\.\2|calls\.tick\.elapse|semaphore\.Semaphore\.take"
     text = re.sub(rf"^(define internal .*@(?:{kept})\(.*\)) #0 \{{$", r"\1 noinline #0 {", text, flags=re.M)

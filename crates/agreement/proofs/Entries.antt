@@ -3,19 +3,20 @@ use mathlib.Core.Path.{◌≡◌, refl, sym, subst}
 use mathlib.Core.Bool.{Bool, true, false}
 use mathlib.Core.List.{List, [], ◌∷◌}
 use mathlib.Core.Logic.{⊎_elim}
+use Rattle.std.specs.Prelude.{Some, None}
 use Prim.Native.Nat.{ℕ, zero, suc, pred, ◌≤◌, ◌<◌}
 use native.Mathlib.Omega.{arith}
 use native.Mathlib.Nat.{not-suc-le-zero}
 use native.Mathlib.Decide.{dec_lt}
 use lib.Dec.{eqb}
 use lib.ListN.{length, get_or}
-use borrow.Author.Tests.{eqb-true, eqb-false, eq-eqb, ne_eqb}
+use borrow.Author.Tests.{leb-true, eqb-true, eqb-false, eq-eqb, ne_eqb}
 use Rattle.laws.specs.Choose.{isnt}
 use Rattle.laws.proofs.Choose.{tested, never, if_yes, and_both, both_and, isnt_false, false_isnt}
 use Rattle.rules.specs.Machine.{Slot, Tables}
 use Rattle.rules.specs.Agreement.{occurs, is_waiter, is_ready_task}
 use Rattle.rules.proofs.Invariants.Lists.{bit_yes, bit_no, bit_same, occurs_none, occurs_cons, occurs_at, occurs_not}
-use Rattle.agreement.specs.Tests.{seen_at, entry_agrees, place_agrees}
+use Rattle.agreement.specs.Tests.{seen_at, number_agrees, place_agrees}
 use Rattle.agreement.proofs.Marks.{Place, seen_made, seen_from}
 
 -- ---- how often
@@ -99,7 +100,7 @@ module _ (seen : List Bool) (xs : List ℕ) where
         (λ (n : get_or (seen_at seen xs k) (pred (get_or xs k 0)) false ≡ false). n)
         (tested (get_or (seen_at seen xs k) (pred (get_or xs k 0)) false))
 
--- ---- the test of a place
+-- ---- the test of a place of a queue
 
 pub record EntryFits (t : Tables) (seen : List Bool) (id : ℕ) (s : Slot) (k : ℕ) : Type 0 where
   pub waiter : is_waiter t id (get_or s.queue k 0) ≡ true
@@ -107,36 +108,43 @@ pub record EntryFits (t : Tables) (seen : List Bool) (id : ℕ) (s : Slot) (k : 
   pub fresh : get_or (seen_at seen s.queue k) (pred (get_or s.queue k 0)) false ≡ false
 
 module _ (t : Tables) (seen : List Bool) (id : ℕ) (s : Slot) (k : ℕ) where
-  pub entry_fits : entry_agrees t seen id s k ≡ true → EntryFits t seen id s k
-  unfolding entry_agrees
+  pub entry_fits : place_agrees t seen s.owner (Some id) s.queue k ≡ true → EntryFits t seen id s k
+  unfolding place_agrees number_agrees
   entry_fits e =
       let number = and_both _ _ e in
       let task = and_both _ _ number.0 in
       let mark = and_both _ _ number.1 in
       record {
-        waiter = both_and task.0 mark.0;
+        waiter = both_and task.0 mark.1;
         apart = eqb-false _ _ (isnt_false _ task.1);
-        fresh = isnt_false _ mark.1;
+        fresh = isnt_false _ mark.0;
       }
 
-  pub fits_entry : EntryFits t seen id s k → entry_agrees t seen id s k ≡ true
-  unfolding entry_agrees
+  pub fits_entry : EntryFits t seen id s k → place_agrees t seen s.owner (Some id) s.queue k ≡ true
+  unfolding place_agrees number_agrees
   fits_entry f =
       let waiter = and_both _ _ f.waiter in
       both_and (both_and waiter.0 (false_isnt _ (ne_eqb _ _ f.apart)))
-      (both_and waiter.1 (false_isnt _ f.fresh))
+      (both_and (false_isnt _ f.fresh) waiter.1)
 
--- ---- and of a place of the sequence
+-- ---- and of the sequence
 
 pub record PlaceFits (t : Tables) (seen : List Bool) (k : ℕ) : Type 0 where
   pub ready : is_ready_task t (get_or t.ready k 0) ≡ true
   pub fresh : get_or (seen_at seen t.ready k) (pred (get_or t.ready k 0)) false ≡ false
 
 module _ (t : Tables) (seen : List Bool) (k : ℕ) where
-  pub place_fits : place_agrees t seen k ≡ true → PlaceFits t seen k
-  unfolding place_agrees
-  place_fits e = let f = and_both _ _ e in record { ready = f.0; fresh = isnt_false _ f.1 }
+  pub place_fits : place_agrees t seen 0 None t.ready k ≡ true → PlaceFits t seen k
+  unfolding place_agrees number_agrees
+  place_fits e =
+      let number = and_both _ _ e in
+      let mark = and_both _ _ number.1 in
+      record { ready = both_and (and_both _ _ number.0).0 mark.1; fresh = isnt_false _ mark.0 }
 
-  pub fits_place : PlaceFits t seen k → place_agrees t seen k ≡ true
-  unfolding place_agrees
-  fits_place f = both_and f.ready (false_isnt _ f.fresh)
+  pub fits_place : PlaceFits t seen k → place_agrees t seen 0 None t.ready k ≡ true
+  unfolding place_agrees number_agrees
+  fits_place f =
+      let ready = and_both _ _ f.ready in
+      let least : 1 ≤ get_or t.ready k 0 = leb-true _ _ (and_both _ _ ready.0).0 in
+      both_and (both_and ready.0 (false_isnt _ (ne_eqb _ _ (λ (z : get_or t.ready k 0 ≡ 0). omega arith))))
+      (both_and (false_isnt _ f.fresh) ready.1)

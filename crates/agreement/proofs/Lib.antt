@@ -2,9 +2,7 @@ pub mod Marks
 pub mod Entries
 pub mod Classes
 pub mod Passes
-pub mod Cases
-pub mod Queues
-pub mod Sequence
+pub mod Walks
 pub mod Slots
 pub mod Model
 pub mod Bytes

@@ -27,8 +27,23 @@ module _ (bs : List ℕ) (b : Bounded bs) (i : ℕ) (h : i < word_at bs 1) where
   pub slot_with_lem : (s : Head) → s ≡ head_of (record_at bs i) → slot_of (model_of bs) (suc i) ≡ slot_with s (queue_in bs i)
   slot_with_lem s e = slot_read bs i h ∙ ap (λ (s : Head). slot_with s (queue_in bs i)) (sym e)
 
-  pub entry_read : (k q : ℕ) → k < (record_at bs i).waiters → q ≡ get_or (record_at bs i).queue k 0 → q ≡ get_or (queue_in bs i) k 0
-  entry_read k q l e = e ∙ sym (get_or-take (record_at bs i).waiters (record_at bs i).queue k 0 l)
+  -- what a head says of its slot, and what stands at a place of its queue
+  module _ (s : Head) (e : s ≡ head_of (record_at bs i)) where
+    pub owner_read : s.owner ≡ (slot_of (model_of bs) (suc i)).owner
+    owner_read = sym (ap (λ (z : Slot). z.owner) (slot_with_lem s e))
+
+    pub head_length : length (queue_in bs i) ≡ s.waiters
+    head_length = queue_length ∙ sym (ap (λ (s : Head). s.waiters) e)
+
+    pub waiters_read : s.waiters ≡ length (slot_of (model_of bs) (suc i)).queue
+    waiters_read = ap (λ (s : Head). s.waiters) e ∙ sym queue_length ∙ sym (ap (λ (z : Slot). length z.queue) (slot_with_lem s e))
+
+    pub entry_read : {k q : ℕ} → k < s.waiters → q ≡ get_or (record_at bs i).queue k 0 → q ≡ get_or (slot_of (model_of bs) (suc i)).queue k 0
+    entry_read {k} l r =
+        let same : s.waiters ≡ (record_at bs i).waiters = ap (λ (s : Head). s.waiters) e in
+        let within : k < (record_at bs i).waiters = omega arith in
+        r ∙ sym (get_or-take (record_at bs i).waiters (record_at bs i).queue k 0 within)
+        ∙ sym (ap (λ (z : Slot). get_or z.queue k 0) (slot_with_lem s e))
 
   -- what is told of the head and the waiters is told of the slot, and back
   module _ (s : Head) (e : s ≡ head_of (record_at bs i)) (first : List Bool) (r : Bool) (seen : List Bool) where

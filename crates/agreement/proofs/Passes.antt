@@ -8,6 +8,7 @@ use native.Mathlib.Omega.{arith}
 use lib.Dec.{leb, eqb}
 use lib.ListN.{length, get_or}
 use borrow.Author.Tests.{leb-true, eqb-true, eqb-false, eq-eqb, le-leb}
+use Rattle.std.specs.Prelude.{Some, None}
 use Rattle.laws.specs.Choose.{choose, ◌and◌}
 use Rattle.laws.proofs.Choose.{tested, never, same_test, choose_cases, if_yes, if_no, and_both, both_and, or_either, or_first, or_second}
 use Rattle.laws.proofs.Choose.{when_then, then_when, isnt_false, false_isnt}
@@ -22,7 +23,7 @@ use Rattle.rules.proofs.Invariants.Agreeing.{agrees_true, true_agrees, agrees_it
 use Rattle.rules.proofs.Invariants.Facts.{nth_task, nth_slot, waits_on, Unheld, Held, Facts, live_within}
 use Rattle.rules.proofs.Invariants.FromTests.{agrees_facts}
 use Rattle.rules.proofs.Invariants.ToTests.{names_of}
-use Rattle.agreement.specs.Tests.{seen_at, seen_below, entry_agrees, queue_agrees, head_agrees, slot_agrees, task_agrees, slots_agree}
+use Rattle.agreement.specs.Tests.{seen_at, seen_below, queue_agrees, head_agrees, slot_agrees, task_agrees, slots_agree}
 use Rattle.agreement.specs.Tests.{place_agrees, sequence_agrees, seen_all, tasks_agree}
 use Rattle.agreement.proofs.Marks.{queue_of, entry_of, Place, length_below, seen_kept, seen_made, seen_from, below_made, below_from}
 use Rattle.agreement.proofs.Classes.{class_owned, class_other, class_maximum_lem, class_agrees_lem}
@@ -258,7 +259,7 @@ module _ (t : Tables) (a : Agrees t) where
             let number : entry_of t s.slot s.at.place ≡ entry_of t j k = omega (arith, s.at.is, least j l k b) in
             elsewhere s.slot s.live s.at.place s.at.within s.below number
 
-    entry_agrees_lem : entry_agrees t (seen_below t j) (id_of (suc j) (nth_slot t j)) (nth_slot t j) k ≡ true
+    entry_agrees_lem : place_agrees t (seen_below t j) (nth_slot t j).owner (Some (id_of (suc j) (nth_slot t j))) (queue_of t j) k ≡ true
     entry_agrees_lem =
         fits_entry t (seen_below t j) _ (nth_slot t j) k
         (record { waiter = waiter j l k b; apart = apart j l k b; fresh = fresh })
@@ -287,7 +288,7 @@ module _ (t : Tables) (a : Agrees t) where
           both_and (eq-eqb _ _ none) ((items.slot j h).when_free l)
 
   -- a task in the sequence is ready, so it is in no queue, and it stands there once
-  place_tested : (k : ℕ) → k < length t.ready → place_agrees t (seen_queued t) k ≡ true
+  place_tested : (k : ℕ) → k < length t.ready → place_agrees t (seen_queued t) 0 None t.ready k ≡ true
   place_tested k b =
       fits_place t (seen_queued t) k
       (record { ready = items.place k b; fresh = once_fresh (seen_queued t) t.ready first k b most queued })

@@ -1,14 +1,14 @@
 -- The test for 25 in the order of the code: one pass over the slots and one over the sequence of ready tasks, which mark the tasks that stand in them,
 -- and one over the tasks.
 -- What is asked of a task or a slot is cited from crates/rules/specs/Agreement.antt.
-use Rattle.std.specs.Prelude.{◌≡◌, Bool, true, false, List, [], ℕ, zero, suc, pred, leb, eqb, length, get_or, set, replicate}
+use Rattle.std.specs.Prelude.{◌≡◌, Bool, true, false, List, [], ℕ, zero, suc, pred, leb, eqb, length, get_or, set, replicate, Option, Some, None}
 use Rattle.laws.specs.Choose.{choose, ◌and◌, isnt, when}
 use Rattle.laws.specs.All.{all}
 use Rattle.rules.specs.declared.Task.{Task}
 use Rattle.rules.specs.Numbers.{max_priority, max_generation, within, allowed, is_binary, is_simple}
 use Rattle.rules.specs.Machine.{Slot, Tables, task_of, slot_of, waits, is_live, id_of}
 use Rattle.rules.specs.Semaphore.{requeued}
-use Rattle.rules.specs.Agreement.{is_ending, is_at_rest, is_ready_task, is_named_right, is_zero_where_queued, is_binary_right, is_clear}
+use Rattle.rules.specs.Agreement.{is_ending, is_at_rest, is_named_right, is_zero_where_queued, is_binary_right, is_clear, sizes_fit}
 
 -- what a pass answers and leaves: the marks are told where the test holds
 pub record Marked (agrees : Bool) (after : List Bool) (r : Bool) (seen : List Bool) : Type 0 where
@@ -22,21 +22,29 @@ unfoldable pub seen_at : List Bool → List ℕ → ℕ → List Bool
 seen_at seen queue zero = seen
 seen_at seen queue (suc k) = set (seen_at seen queue k) (pred (get_or queue k 0)) true
 
--- a task of the N at place k, who is not the owner
+-- a task of the N, who is not the owner
 abbrev pub is_apart : ℕ → ℕ → ℕ → Bool
 is_apart N owner q = within 1 N q and isnt (eqb q owner)
 
-abbrev pub is_waiting_on : ℕ → Task → Bool
-is_waiting_on id v = waits v and eqb v.awaited id
+-- a task may stand in the queue of the semaphore of that identifier, or with none in the sequence of ready tasks
+abbrev pub stands : Option ℕ → Task → Bool
+stands (Some id) v = waits v and eqb v.awaited id
+stands None v = isnt (waits v)
 
-unfoldable pub entry_agrees : Tables → List Bool → ℕ → Slot → ℕ → Bool
-entry_agrees t seen id s k =
-    is_apart (length t.tasks) s.owner (get_or s.queue k 0)
-    and is_waiting_on id (task_of t (get_or s.queue k 0))
-    and isnt (get_or (seen_at seen s.queue k) (pred (get_or s.queue k 0)) false)
+-- the number at a place, with the marks of the places before it
+unfoldable pub number_agrees : Tables → List Bool → ℕ → Option ℕ → ℕ → Bool
+number_agrees t seen owner awaited q =
+    is_apart (length t.tasks) owner q and isnt (get_or seen (pred q) false) and stands awaited (task_of t q)
+
+abbrev pub NumberTested : Tables → List Bool → ℕ → Option ℕ → ℕ → Bool → List Bool → Type 0
+NumberTested t seen owner awaited q r after = Marked (number_agrees t seen owner awaited q) (set seen (pred q) true) r after
+
+-- the place k of a queue whose semaphore has that owner, or with owner 0 of the sequence
+unfoldable pub place_agrees : Tables → List Bool → ℕ → Option ℕ → List ℕ → ℕ → Bool
+place_agrees t seen owner awaited queue k = number_agrees t (seen_at seen queue k) owner awaited (get_or queue k 0)
 
 unfoldable pub queue_agrees : Tables → List Bool → ℕ → Slot → Bool
-queue_agrees t seen id s = all (length s.queue) (entry_agrees t seen id s)
+queue_agrees t seen id s = all (length s.queue) (place_agrees t seen s.owner (Some id) s.queue)
 
 abbrev pub QueueTested : Tables → List Bool → ℕ → Slot → Bool → List Bool → Type 0
 QueueTested t seen id s r after = Marked (queue_agrees t seen id s) (seen_at seen s.queue (length s.queue)) r after
@@ -88,13 +96,8 @@ slots_agree t = all (length t.slots) (λ i. slot_agrees t (seen_below t i) (suc 
 abbrev pub SlotsTested : Tables → Bool → List Bool → Type 0
 SlotsTested t r after = Marked (slots_agree t) (seen_below t (length t.slots)) r after
 
--- the place k of the sequence: a ready task, which stands at no place before it
-unfoldable pub place_agrees : Tables → List Bool → ℕ → Bool
-place_agrees t seen k =
-    is_ready_task t (get_or t.ready k 0) and isnt (get_or (seen_at seen t.ready k) (pred (get_or t.ready k 0)) false)
-
 unfoldable pub sequence_agrees : Tables → List Bool → Bool
-sequence_agrees t seen = all (length t.ready) (place_agrees t seen)
+sequence_agrees t seen = all (length t.ready) (place_agrees t seen 0 None t.ready)
 
 abbrev pub SequenceTested : Tables → List Bool → Bool → List Bool → Type 0
 SequenceTested t seen r after = Marked (sequence_agrees t seen) (seen_at seen t.ready (length t.ready)) r after
@@ -105,3 +108,6 @@ seen_all t = seen_at (seen_below t (length t.slots)) t.ready (length t.ready)
 
 unfoldable pub tasks_agree : Tables → Bool
 tasks_agree t = all (length t.tasks) (λ i. task_agrees (get_or (seen_all t) i false) (task_of t (suc i)))
+
+unfoldable pub tables_agree : Tables → Bool
+tables_agree t = sizes_fit t and slots_agree t and sequence_agrees t (seen_below t (length t.slots)) and tasks_agree t

@@ -10,3 +10,4 @@ pub mod Ending
 pub mod Obtaining
 pub mod Releasing
 pub mod Ticking
+pub mod Refusing

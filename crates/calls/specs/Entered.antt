@@ -1,7 +1,7 @@
 -- How a call on a semaphore begins.
-use Rattle.std.specs.Prelude.{◌≡◌, true, ℕ, ◌≤◌, eqb, length}
-use Rattle.laws.specs.Choose.{choose}
-use Rattle.rules.specs.Numbers.{invalid_id}
+use Rattle.std.specs.Prelude.{◌≡◌, true, false, ℕ, ◌≤◌, length, Result, Ok, Err}
+use Rattle.rules.specs.declared.refusal.Refusal.{Refusal}
+use Rattle.rules.specs.declared.refusal.Refusal.TheVariants.{InvalidId}
 use Rattle.rules.specs.Machine.{Tables, slot_of, is_live, names, slot_named}
 use Rattle.semaphore.specs.declared.Semaphore.{Semaphore}
 use Rattle.semaphore.specs.Record.{Stands}
@@ -16,7 +16,7 @@ pub record Found (t : Tables) (id n : ℕ) (s : Semaphore) : Type 0 where
   pub live : is_live (slot_of t n) ≡ true
   pub stands : Stands s (slot_of t n)
 
--- the caller's refusal `first`, then 4 where the identifier names no live semaphore
-pub record Enters (t : Tables) (first id : ℕ) (r : Entered) : Type 0 where
-  pub refusal : r.refusal ≡ choose (eqb first 0) (choose (names t id) 0 invalid_id) first
-  pub found : r.refusal ≡ 0 → Found t id r.slot r.semaphore
+-- 4 where the identifier names no live semaphore
+abbrev pub Enters : Tables → ℕ → Result Entered Refusal → Type 0
+Enters t id (Ok e) = Found t id e.slot e.semaphore
+Enters t id (Err e) = (e ≡ InvalidId) × (names t id ≡ false)

@@ -1,45 +1,29 @@
-// How a call on a semaphore begins: the caller is checked, the slot that the identifier names is found, and its record is loaded.
-ghost use Rattle.std.specs.Prelude.{◌≡◌};
-ghost use Rattle.tables.specs.Layout.{model_of};
+// How a call on a semaphore goes on once its caller may make it: the slot that the identifier names is found, and its record is loaded.
+ghost use Rattle.tables.specs.View.{seen};
 ghost use Rattle.calls.specs.Agreeing.{Agreeing};
 ghost use Rattle.calls.specs.Entered.{Enters};
 
+use rules::Refusal;
 use semaphore::Semaphore;
+use tables::View;
 
-// Why the call is refused, or 0, and then the slot's number and its semaphore.
+// A live semaphore, and the number of its slot.
 #[derive(Clone, Copy)]
 pub struct Entered {
-    pub refusal: u32,
     pub slot: u32,
     pub semaphore: Semaphore,
 }
 
-fn refused(refusal: u32) -> Entered
-    ensures { result.refusal ≡ refusal }
+#[tactic(auto, using(crate::proofs::Entering::entering))]
+pub fn enter(v: View<'_>, id: u32) -> Result<Entered, Refusal>
+    requires { Agreeing v.bytes.now }
+    ensures { Enters (seen v.entry) id result }
 {
-    Entered {
-        refusal,
-        slot: 0,
-        semaphore: semaphore::free(0),
-    }
-}
-
-// `refusal` is the caller's, or 0.
-pub fn enter(m: &[u8], refusal: u32, id: u32) -> Entered
-    requires { Agreeing m.now }
-    ensures { Enters (model_of m.now) refusal id result }
-{
-    if refusal != 0 {
-        return refused(refusal);
-    }
-    let n = lookup::slot_named(m, id);
-    if n == 0 {
-        return refused(rules::INVALID_ID);
-    }
-    let s = tables::load_slot(m, n as usize - 1);
-    Entered {
-        refusal: 0,
-        slot: n,
-        semaphore: s,
-    }
+    let Some(slot) = lookup::slot_named(v, id) else {
+        return Err(Refusal::InvalidId);
+    };
+    Ok(Entered {
+        slot,
+        semaphore: v.slot(slot as usize - 1),
+    })
 }

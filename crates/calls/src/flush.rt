@@ -5,21 +5,21 @@ ghost use Rattle.calls.specs.Reply.{Does};
 
 use super::Done;
 use super::enter::enter;
+use rules::Refusal;
+use tables::View;
 
-pub fn flush(m: &mut [u8], caller: u32, id: u32) -> Done
+#[tactic(auto, using(crate::proofs::Agreeing::sized, crate::proofs::Entering::storable, crate::proofs::Ending::flushing))]
+pub fn flush(m: &mut [u8], caller: u32, id: u32) -> Result<Done, Refusal>
     requires { Agreeing m.old }
     ensures { Does m.old m.new result (λ t. flush t caller id) }
 {
-    let refusal = lookup::any_caller(m, caller);
-    let e = enter(m, refusal, id);
-    if e.refusal != 0 {
-        return Done(e.refusal, 0);
-    }
+    let v = View::new(m);
+    lookup::any_caller(v, caller)?;
+    let e = enter(v, id)?;
     let s = e.semaphore;
-    let order = serving::serving_order(m, s);
-    let flushed = s.flush();
-    let emptied = flushed.semaphore;
+    let order = serving::serving_order(v, s);
+    let emptied = s.flush();
     changes::put_slot(m, e.slot, emptied);
     changes::wake_all(m, order, s.waiters as usize, rules::UNSATISFIED);
-    Done(0, 0)
+    Ok(Done::Value(0))
 }

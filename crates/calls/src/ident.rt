@@ -7,22 +7,24 @@ ghost use Rattle.calls.specs.Reply.{Does, Replied, reply};
 
 use super::Done;
 use lookup::looks;
-use rules::Answer;
+use rules::{Answer, Refusal};
+use tables::View;
 
-// What an ident answers, and how many slots its search looked at.
+/// What an ident answers, and how many slots its search looked at.
 #[derive(Clone, Copy)]
 pub struct Searched {
     pub answer: Answer,
     pub looked: u32,
 }
 
-// The same before the next task is asked for.
+// The same before the next task is asked for: what `find` answers has no next task yet.
 #[derive(Clone, Copy)]
 struct Sought {
-    done: Done,
+    done: Result<Done, Refusal>,
     looked: u32,
 }
 
+#[tactic(auto, using(crate::proofs::Agreeing::sized, crate::proofs::Reading::naming))]
 fn search(m: &[u8], name: u32) -> Sought
     requires { Agreeing m.now }
     ensures done { Does m.now m.now result.done (λ t. ident t name) }
@@ -30,7 +32,7 @@ fn search(m: &[u8], name: u32) -> Sought
 {
     if name == 0 {
         return Sought {
-            done: Done(rules::INVALID_NAME, 0),
+            done: Err(Refusal::InvalidName),
             looked: 0,
         };
     }
@@ -38,35 +40,34 @@ fn search(m: &[u8], name: u32) -> Sought
     let looked = looks::count(last);
     if !looks::is_match(last, name) {
         return Sought {
-            done: Done(rules::INVALID_NAME, 0),
+            done: Err(Refusal::InvalidName),
             looked,
         };
     }
     Sought {
-        done: Done(0, last.generation * rules::GENERATION_UNIT + looked),
+        done: Ok(Done::Value(last.generation * rules::GENERATION_UNIT + looked)),
         looked,
     }
 }
 
-// For `step`: status and value alone, as of every call.
-pub fn find(m: &[u8], name: u32) -> Done
+// For `step`: what it does alone, as of every call.
+pub fn find(m: &[u8], name: u32) -> Result<Done, Refusal>
     requires { Agreeing m.now }
     ensures { Does m.now m.now result (λ t. ident t name) }
 {
-    let sought = search(m, name);
-    sought.done
+    search(m, name).done
 }
 
-// The whole call, for those whose lent bytes are not to be written.
+/// The whole call, for those whose lent bytes are not to be written.
+#[tactic(auto, using(crate::proofs::Agreeing::sized))]
 pub fn ident(m: &[u8], name: u32) -> Searched
     requires { Agreeing m.now }
     ensures replied { Replied result.answer m.now (reply (ident (model_of m.now) name)) }
     ensures looked { result.looked ≡ looked (model_of m.now) name }
 {
     let sought = search(m, name);
-    let done = sought.done;
     Searched {
-        answer: super::answer(m, done),
+        answer: super::answer(View::new(m), sought.done),
         looked: sought.looked,
     }
 }

@@ -1,4 +1,5 @@
-// The calls on agreeing tables, in place on lent bytes: checks that only read, then one step. A module each, in document 01's order.
+// The calls on agreeing tables, in place on lent bytes: checks that only read, then one step. A module each, in document 01's order. They take the bytes
+// themselves, since their steps break agreement and restore it; `Tables`, whose methods keep it, stands above them.
 #![tactic(auto)]
 
 mod create;
@@ -6,38 +7,49 @@ mod delete;
 mod enter;
 mod flush;
 pub mod ident;
+mod lent;
 mod obtain;
 mod release;
 mod start;
 pub mod task;
-pub mod tick;
+mod tick;
 
 ghost use Rattle.std.specs.Prelude.{◌≡◌};
 ghost use Rattle.rules.specs.Calls.{answered, perform};
 ghost use Rattle.tables.specs.Layout.{model_of};
-ghost use Rattle.tables.specs.Sizes.{Sized};
+ghost use Rattle.tables.specs.View.{seen};
 ghost use Rattle.calls.specs.Agreeing.{Agreeing};
-ghost use Rattle.calls.specs.Reply.{Does, Replied, reply};
+ghost use Rattle.calls.specs.Reply.{Does, Replied, reply, done_status, done_value};
 
-use rules::{Answer, Call};
+pub use lent::Tables;
+use rules::{Answer, Call, Refusal};
+use tables::View;
 
-// What a call has done: its status and its value. The next task is read of what it leaves.
-#[derive(Clone, Copy)]
-pub struct Done(u32, u32);
+/// What a call that is not refused has done: it is over, with its value, or its caller waits and has no value yet.
+#[derive(Clone, Copy, Debug, PartialEq, Eq)]
+pub enum Done {
+    Value(u32),
+    Waits,
+}
 
-// What every call ends with: its answer, with the next task as the tables are then.
-fn answer(m: &[u8], done: Done) -> Answer
-    requires { Sized m.now }
-    ensures { result ≡ (answered done.0 done.1 (model_of m.now)).answer }
+// What every call ends with: its answer, with the next task as the tables are then. Here alone a refusal is made a number.
+fn answer(v: View<'_>, done: Result<Done, Refusal>) -> Answer
+    ensures { result ≡ (answered (done_status done) (done_value done) (seen v.entry)).answer }
 {
+    let (status, value) = match done {
+        Ok(Done::Value(value)) => (rules::SUCCESSFUL, value),
+        Ok(Done::Waits) => (rules::WAITING, 0),
+        Err(refusal) => (refusal.status(), 0),
+    };
     Answer {
-        status: done.0,
-        value: done.1,
-        next: lookup::next_task(m),
+        status,
+        value,
+        next: lookup::next_task(v),
     }
 }
 
-fn step(m: &mut [u8], call: Call, priorities: &[u32]) -> Done
+#[tactic(auto, unfolding(rules::specs::Calls::perform))]
+fn step(m: &mut [u8], call: Call, priorities: &[u32]) -> Result<Done, Refusal>
     requires { Agreeing m.old }
     ensures { Does m.old m.new result (λ t. perform t call priorities.now) }
 {
@@ -63,8 +75,9 @@ fn step(m: &mut [u8], call: Call, priorities: &[u32]) -> Done
 pub fn perform(m: &mut [u8], call: Call, priorities: &[u32]) -> Answer
     requires { Agreeing m.old }
     ensures replied { Replied result m.new (reply (perform (model_of m.old) call priorities.now)) }
+    ensures tables { model_of m.new ≡ (perform (model_of m.old) call priorities.now).tables }
     ensures kept { Agreeing m.new }
 {
     let done = step(m, call, priorities);
-    answer(m, done)
+    answer(View::new(m), done)
 }

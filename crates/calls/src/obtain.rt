@@ -8,15 +8,15 @@ ghost use Rattle.calls.specs.Reply.{Does};
 
 use super::Done;
 use super::enter::enter;
-use rules::{Task, Wait};
+use rules::{Refusal, Task, Wait};
+use tables::View;
 
 // The ticks of a wait that begins, 0 for ever.
 fn ticks_of(wait: Wait) -> u32
     ensures { result ≡ ticks_of wait }
 {
     match wait {
-        Wait::Poll => 0,
-        Wait::Forever => 0,
+        Wait::Poll | Wait::Forever => 0,
         Wait::Ticks(n) => n,
     }
 }
@@ -26,35 +26,29 @@ fn blocked(v: Task, id: u32, ticks: u32) -> Task
     ensures { (wait : WaitModel) → ticks ≡ ticks_of wait → result ≡ blocked v id wait }
 {
     Task {
-        priority: v.priority,
         answer: rules::WAITING,
         awaited: id,
-        ticks: ticks,
+        ticks,
+        ..v
     }
 }
 
-pub fn obtain(m: &mut [u8], caller: u32, id: u32, wait: Wait) -> Done
+#[tactic(auto, using(crate::proofs::Agreeing::sized, crate::proofs::Entering::storable, crate::proofs::Obtaining::obtaining))]
+pub fn obtain(m: &mut [u8], caller: u32, id: u32, wait: Wait) -> Result<Done, Refusal>
     requires { Agreeing m.old }
     ensures { Does m.old m.new result (λ t. obtain t caller id wait) }
 {
-    let refusal = lookup::task_only(m, caller);
-    let e = enter(m, refusal, id);
-    if e.refusal != 0 {
-        return Done(e.refusal, 0);
-    }
+    let v = View::new(m);
+    lookup::task_only(v, caller)?;
+    let e = enter(v, id)?;
     let s = e.semaphore;
-    let taken = s.take(caller, wait);
-    let status = taken.status;
-    if status == rules::UNSATISFIED {
-        return Done(rules::UNSATISFIED, 0);
+    let taken = s.take(caller, wait)?;
+    changes::put_slot(m, e.slot, taken.semaphore);
+    if taken.waits {
+        let task = tables::load_task(m, caller as usize - 1);
+        let waiter = blocked(task, id, ticks_of(wait));
+        changes::begin_wait(m, caller, waiter);
+        return Ok(Done::Waits);
     }
-    let held = taken.semaphore;
-    changes::put_slot(m, e.slot, held);
-    if status != rules::WAITING {
-        return Done(0, 0);
-    }
-    let v = tables::load_task(m, caller as usize - 1);
-    let waiter = blocked(v, id, ticks_of(wait));
-    changes::begin_wait(m, caller, waiter);
-    Done(rules::WAITING, 0)
+    Ok(Done::Value(0))
 }

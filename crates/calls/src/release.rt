@@ -5,29 +5,23 @@ ghost use Rattle.calls.specs.Reply.{Does};
 
 use super::Done;
 use super::enter::enter;
+use rules::Refusal;
+use tables::View;
 
-pub fn release(m: &mut [u8], caller: u32, id: u32) -> Done
+#[tactic(auto, using(crate::proofs::Agreeing::sized, crate::proofs::Entering::storable, crate::proofs::Releasing::releasing))]
+pub fn release(m: &mut [u8], caller: u32, id: u32) -> Result<Done, Refusal>
     requires { Agreeing m.old }
     ensures { Does m.old m.new result (λ t. release t caller id) }
 {
-    let refusal = lookup::any_caller(m, caller);
-    let e = enter(m, refusal, id);
-    if e.refusal != 0 {
-        return Done(e.refusal, 0);
-    }
+    let v = View::new(m);
+    lookup::any_caller(v, caller)?;
+    let e = enter(v, id)?;
     let s = e.semaphore;
-    let place = serving::served_place(m, s);
-    let given = s.give(caller, place);
-    let status = given.status;
-    if status != 0 {
-        return Done(status, 0);
+    let place = serving::served_place(v, s);
+    let given = s.give(caller, place)?;
+    changes::put_slot(m, e.slot, given.semaphore);
+    if let Some(q) = given.woken {
+        changes::wake(m, q, rules::SUCCESSFUL);
     }
-    let held = given.semaphore;
-    changes::put_slot(m, e.slot, held);
-    let woken = given.woken;
-    if woken == 0 {
-        return Done(0, 0);
-    }
-    changes::wake(m, woken, 0);
-    Done(0, 0)
+    Ok(Done::Value(0))
 }

@@ -9,6 +9,7 @@ ghost use Rattle.itron_calls.specs.Reply.{code_reply, ref_reply, delete_reply, L
 use itron::{Coded, Reference};
 use rules::Answer;
 
+#[tactic(auto, using(itron::proofs::Signed::read))]
 #[unsafe(no_mangle)]
 pub extern "C" fn mast_cre_sem(
     tables: &mut [u8],
@@ -62,6 +63,7 @@ pub extern "C" fn mast_preq_sem(tables: &mut [u8], list: &[u32], caller: u32, se
     itron_calls::preq_sem(tables, list, caller, semid)
 }
 
+#[tactic(auto, using(itron::proofs::Signed::read))]
 #[unsafe(no_mangle)]
 pub extern "C" fn mast_twai_sem(
     tables: &mut [u8],

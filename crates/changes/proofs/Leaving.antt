@@ -44,6 +44,10 @@ place_within q (x ∷ xs) e =
     choose_cases (λ (p : ℕ). p < suc (length xs)) (eqb q x) 0 (suc (place_in q xs)) (λ y. omega arith)
     (λ n. omega (arith, place_within q xs (omega (arith, occurs_cons q x xs, bit_no _ n))))
 
+-- so its place is not the length
+pub stands_nowhere : (q : ℕ) (xs : List ℕ) → 1 ≤ occurs q xs → place_in q xs ≡ length xs → ⊥
+stands_nowhere q xs e n = omega (arith, place_within q xs e)
+
 removed_without : (q : ℕ) (xs : List ℕ) → occurs q xs ≡ 1 → removed (place_in q xs) xs ≡ without q xs
 unfolding place_in without
 removed_without q [] e = refl
@@ -126,7 +130,7 @@ module _ (m : List ℕ) (q k x : ℕ) (b : Bytes m) (h : k < 32) (l : k < word_a
       rw add-one
       (omega (arith, place_next t e, if_no 0 (suc (place_in q (drop (suc k) t.ready))) (ne_eqb q x (λ y. isnt (sym y)))))
 
-pub place_none : (m : List ℕ) (q k : ℕ) → Bytes m → k ≡ word_at m ready_place → PlaceFrom m q k → (t : Tables) → m ≡ laid t → k ≡ place_in q t.ready
+pub place_none : (m : List ℕ) (q k : ℕ) → Bytes m → k ≡ word_at m ready_place → PlaceFrom m q k → (t : Tables) → m ≡ laid t → place_in q t.ready ≡ length t.ready
 unfolding place_in
 place_none m q k b n from t e =
     let all : k ≡ length t.ready = n ∙ count_read m b t e in

@@ -2,22 +2,20 @@
 use mathlib.Core.Path.{◌≡◌, refl, sym, ap, ap₂, ◌∙◌}
 use mathlib.Core.Bool.{Bool, false}
 use mathlib.Core.List.{List, [], ◌∷◌, map}
-use Prim.Native.Nat.{ℕ, suc, ◌+◌, ◌-◌, ◌*◌, ◌≤◌, ◌<◌}
+use Prim.Native.Nat.{ℕ, suc, ◌+◌, ◌*◌, ◌<◌}
 use native.Mathlib.Numerals.{add-one}
-use native.Mathlib.Decide.{ℕ_discrete}
 use native.Mathlib.Omega.{arith}
-use lib.Dec.{leb, eqb}
+use lib.Dec.{leb}
 use lib.ListN.{length, get_or, set, get_or-map}
 use lib.Seq.{sets, set-get_or}
-use borrow.Author.Tests.{eq-eqb, ne_eqb, le-leb, lt-leb, leb-false}
 use Rattle.laws.specs.Choose.{choose, ◌and◌}
-use Rattle.laws.proofs.Choose.{both_and, if_yes, if_no, if_eq, if_ne}
+use Rattle.laws.proofs.Choose.{cases}
 use Rattle.words.specs.Words.{bytes_of, word_at}
 use Rattle.words.proofs.WordsInBytes.{Bytes}
 use Rattle.rules.specs.declared.Task.{Task}
 use Rattle.rules.specs.Machine.{Slot, Tables, with_tasks, with_slots, no_task, free_slot, slot_of, put_slot, waits}
 use Rattle.rules.specs.Semaphore.{requeued}
-use Rattle.rules.specs.Calls.{readied, expires, ticked}
+use Rattle.rules.specs.Calls.{expires, ticked}
 use Rattle.semaphore.specs.declared.Semaphore.{Semaphore}
 use Rattle.semaphore.specs.Record.{slot_from, Stands, keep, slot_keeping}
 use Rattle.tables.specs.Codec.{task_row, record_row}
@@ -29,52 +27,10 @@ use Rattle.changes.specs.Tick.{expiring}
 use Rattle.laws.proofs.Mapped.{mapped, length_mapped, mapped_at, mapped_next, mapped_all, Filled}
 use Rattle.laws.proofs.Fit.{fit_tabulate, tabulate_is}
 
--- ---- one task
-
-module _ (v : Task) where
-  ready_stays : (v.answer ≡ 100 → ⊥) → expires v ≡ false
-  ready_stays h = if_ne v.answer 100 _ _ h
-
-  pub expires_ready : (v.answer ≡ 100 → ⊥) → false ≡ expires v
-  expires_ready h = sym (ready_stays h)
-
-  pub expires_waiting : v.answer ≡ 100 → eqb v.ticks 1 ≡ expires v
-  expires_waiting h = sym (if_eq v.answer 100 _ _ h)
-
-  pub ticked_ready : (v.answer ≡ 100 → ⊥) → v ≡ ticked v
-  unfolding ticked
-  ticked_ready h = sym (if_no _ _ (ready_stays h) ∙ if_no _ _ (if_ne v.answer 100 _ _ h))
-
-  pub ticked_ends : v.answer ≡ 100 → v.ticks ≡ 1 → readied v 6 ≡ ticked v
-  unfolding ticked
-  ticked_ends h e = sym (if_yes _ _ (both_and (eq-eqb v.answer 100 h) (eq-eqb v.ticks 1 e)))
-
-  pub ticked_forever : v.answer ≡ 100 → v.ticks ≡ 0 → v ≡ ticked v
-  unfolding ticked
-  ticked_forever h e =
-      sym
-      (if_no _ _ (sym (expires_waiting h) ∙ ne_eqb v.ticks 1 (omega arith))
-      ∙ if_no _ _ (if_eq v.answer 100 _ _ h ∙ lt-leb 2 v.ticks (omega arith)))
-
-  pub ticked_later : v.answer ≡ 100 → 2 ≤ v.ticks
-      → record { priority = v.priority; answer = v.answer; awaited = v.awaited; ticks = v.ticks - 1 } ≡ ticked v
-  unfolding ticked
-  ticked_later h e =
-      sym (if_no _ _ (sym (expires_waiting h) ∙ ne_eqb v.ticks 1 (omega arith)) ∙ if_yes _ _ (both_and (eq-eqb v.answer 100 h) (le-leb 2 v.ticks e)))
-
-  pub timed_ready : (v.answer ≡ 100 → ⊥) → false ≡ (waits v and leb 1 v.ticks)
-  timed_ready h = sym (if_ne v.answer 100 _ _ h)
-
-  pub timed_waiting : v.answer ≡ 100 → leb 1 v.ticks ≡ (waits v and leb 1 v.ticks)
-  timed_waiting h = sym (if_eq v.answer 100 _ _ h)
-
-  -- what is in no timed wait stays
-  pub ticked_untimed : (waits v and leb 1 v.ticks) ≡ false → ticked v ≡ v
-  ticked_untimed e =
-      elim (ℕ_discrete v.answer 100) [
-        | yes w ↦ sym (ticked_forever w (let less : v.ticks < 1 = leb-false 1 v.ticks (timed_waiting w ∙ e) in omega arith))
-        | no n ↦ sym (ticked_ready n)
-      ]
+-- what is in no timed wait stays
+pub ticked_untimed : (v : Task) → (waits v and leb 1 v.ticks) ≡ false → ticked v ≡ v
+unfolding ticked
+ticked_untimed v e = grind (arith, cases)
 
 -- ---- the flags
 

@@ -1,5 +1,5 @@
 -- Where a task stands in the sequence; what a tick asks of the tables, and the flags of the tasks whose wait it ends.
-use Rattle.std.specs.Prelude.{◌≡◌, Bool, false, List, [], ◌∷◌, map, ℕ, suc, ◌<◌, eqb, length}
+use Rattle.std.specs.Prelude.{◌≡◌, Bool, false, List, [], ◌∷◌, map, ℕ, suc, ◌<◌, eqb, length, Option, Some, None}
 use Rattle.laws.specs.Choose.{choose}
 use Rattle.laws.specs.Rows.{fit}
 use Rattle.rules.specs.Machine.{Tables, slot_of}
@@ -23,6 +23,11 @@ pub record TaskQueues (bs : List ℕ) : Type 0 where
 unfoldable pub place_in : ℕ → List ℕ → ℕ
 place_in q [] = 0
 place_in q (x ∷ xs) = let rest = place_in q xs in choose (eqb q x) 0 (suc rest)
+
+-- a place that was found, or that there is none
+abbrev pub FindsPlace : Option ℕ → ℕ → List ℕ → Type 0
+FindsPlace (Some p) q qs = p ≡ place_in q qs
+FindsPlace None q qs = place_in q qs ≡ length qs
 
 -- of task q at q - 1, and false beyond the last task
 unfoldable pub expiring : Tables → List Bool

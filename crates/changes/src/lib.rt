@@ -1,7 +1,8 @@
-// Steps that write the tables in lent bytes. Tasks and slots go by their numbers, counted from 1.
-#![tactic(auto)]
+// Steps that write the tables in lent bytes. Tasks and slots go by their numbers, counted from 1. Between two steps the bytes agree with nothing, so that no
+// type holds them here; loops go by places, since on other processors a slice's iterator is a pair with a pointer.
+#![tactic(auto, using(laws::proofs::Choose::cases))]
 
-ghost use Rattle.std.specs.Prelude.{◌≡◌, map, ◌++◌, ℕ, suc, ◌+◌, ◌≤◌, ◌<◌, leb, length, get_or, take};
+ghost use Rattle.std.specs.Prelude.{◌≡◌, map, ◌++◌, ℕ, suc, ◌+◌, ◌≤◌, ◌<◌, leb, length, get_or, take, IfSome};
 ghost use Rattle.laws.specs.Choose.{◌and◌};
 ghost use Rattle.rules.specs.Machine.{Slot, Tables, unstarted, with_tasks, with_slots, with_ready, slot_of, put_task, put_slot, waits};
 ghost use Rattle.rules.specs.Agreement.{occurs};
@@ -10,7 +11,7 @@ ghost use Rattle.semaphore.specs.Record.{Padded, Stands, TasksOnly, slot_keeping
 ghost use Rattle.words.specs.Words.{word_at};
 ghost use Rattle.tables.specs.Layout.{tables_length, ready_place, laid, record_at};
 ghost use Rattle.tables.specs.Sizes.{Limited};
-ghost use Rattle.changes.specs.Tick.{TaskQueues, place_in, expiring, flagged};
+ghost use Rattle.changes.specs.Tick.{TaskQueues, FindsPlace, expiring, flagged};
 
 use rules::Task;
 use semaphore::Semaphore;
@@ -19,11 +20,12 @@ use semaphore::Semaphore;
 fn readied(v: Task, answer: u32) -> Task
     ensures { result ≡ readied v answer }
 {
-    let mut ready = v;
-    ready.answer = answer;
-    ready.awaited = 0;
-    ready.ticks = 0;
-    ready
+    Task {
+        answer,
+        awaited: 0,
+        ticks: 0,
+        ..v
+    }
 }
 
 pub fn put_task(m: &mut [u8], q: u32, v: Task)
@@ -48,8 +50,7 @@ pub fn wake(m: &mut [u8], q: u32, answer: u32)
         → m.new ≡ laid (wake t q answer) }
 {
     let v = tables::load_task(m, q as usize - 1);
-    let ready = readied(v, answer);
-    put_task(m, q, ready);
+    put_task(m, q, readied(v, answer));
     tables::add_ready(m, q);
 }
 
@@ -60,28 +61,23 @@ pub fn wake_all(m: &mut [u8], queue: [u32; 32], waiters: usize, answer: u32)
     ensures { (t : Tables) → m.old ≡ laid t → ((k : ℕ) → k < waiters → get_or queue k 0 ≤ length t.tasks)
         → length t.ready + waiters ≤ 32 → m.new ≡ laid (wake_all t (take waiters queue) answer) }
 {
-    let mut k = 0;
-    while k < waiters {
+    for k in 0..waiters {
         wake(m, queue[k], answer);
-        k += 1;
     }
 }
 
-// Where task q stands in the sequence of ready tasks, or its length.
-fn ready_place(m: &[u8], q: u32) -> usize
+// Where task q stands in the sequence of ready tasks.
+fn ready_place(m: &[u8], q: u32) -> Option<usize>
     requires { (length m.now ≡ tables_length) × (word_at m.now ready_place ≤ 32) }
-    ensures few { result ≤ 32 }
-    ensures place { (t : Tables) → m.now ≡ laid t → result ≡ place_in q t.ready }
+    ensures few { IfSome result (λ p. p < 32) }
+    ensures place { (t : Tables) → m.now ≡ laid t → FindsPlace result q t.ready }
 {
-    let count = tables::ready_count(m) as usize;
-    let mut k = 0;
-    while k < count {
+    for k in 0..tables::ready_count(m) as usize {
         if tables::ready_entry(m, k) == q {
-            return k;
+            return Some(k);
         }
-        k += 1;
     }
-    k
+    None
 }
 
 // Task q leaves the sequence of ready tasks, and those behind it close up.
@@ -89,12 +85,12 @@ fn leave_ready(m: &mut [u8], q: u32)
     requires { (length m.old ≡ tables_length) × (word_at m.old ready_place ≤ 32) }
     ensures { (t : Tables) → m.old ≡ laid t → occurs q t.ready ≡ 1 → m.new ≡ laid (with_ready t (without q t.ready)) }
 {
-    let count = tables::ready_count(m) as usize;
-    let mut k = ready_place(m, q) + 1;
-    while k < count {
+    let Some(place) = ready_place(m, q) else {
+        return;
+    };
+    for k in place + 1..tables::ready_count(m) as usize {
         let behind = tables::ready_entry(m, k);
         tables::set_ready(m, k - 1, behind);
-        k += 1;
     }
     tables::drop_ready(m);
 }
@@ -113,7 +109,7 @@ fn new_task(priority: u32) -> Task
     ensures { result ≡ new_task priority }
 {
     Task {
-        priority: priority,
+        priority,
         answer: 0,
         awaited: 0,
         ticks: 0,
@@ -126,12 +122,9 @@ pub fn start_tables(m: &mut [u8], slots: u32, priorities: &[u32])
     ensures { m.old ≡ laid unstarted → m.new ≡ laid (started slots priorities.now) }
 {
     tables::store_counts(m, priorities.len() as u32, slots);
-    let mut i = 0;
-    while i < priorities.len() {
-        let v = new_task(priorities[i]);
-        tables::store_task(m, i, v);
+    for i in 0..priorities.len() {
+        tables::store_task(m, i, new_task(priorities[i]));
         tables::add_ready(m, i as u32 + 1);
-        i += 1;
     }
 }
 
@@ -139,30 +132,30 @@ pub fn start_tables(m: &mut [u8], slots: u32, priorities: &[u32])
 fn expires(v: Task) -> bool
     ensures { result ≡ expires v }
 {
-    if v.answer != rules::WAITING {
-        return false;
-    }
-    v.ticks == 1
+    v.answer == rules::WAITING && v.ticks == 1
+}
+
+// Whether a tick changes the task: it waits, and not for ever.
+fn is_timed(v: Task) -> bool
+    ensures { result ≡ (waits v and leb 1 v.ticks) }
+{
+    v.answer == rules::WAITING && 1 <= v.ticks
 }
 
 // A timed wait loses a tick; a wait at 1 ends with answer 6.
+#[tactic(auto, using(laws::proofs::Choose::cases), unfolding(rules::specs::Calls::ticked))]
 fn ticked(v: Task) -> Task
     ensures { result ≡ ticked v }
 {
-    if v.answer != rules::WAITING {
-        return v;
-    }
-    if v.ticks == 1 {
-        return readied(v, rules::TIMEOUT);
-    }
-    if v.ticks == 0 {
-        return v;
-    }
-    Task {
-        priority: v.priority,
-        answer: v.answer,
-        awaited: v.awaited,
-        ticks: v.ticks - 1,
+    if expires(v) {
+        readied(v, rules::TIMEOUT)
+    } else if is_timed(v) {
+        Task {
+            ticks: v.ticks - 1,
+            ..v
+        }
+    } else {
+        v
     }
 }
 
@@ -172,11 +165,8 @@ fn expired(m: &[u8]) -> [bool; 32]
     ensures { (t : Tables) → m.now ≡ laid t → result ≡ expiring t }
 {
     let mut flags = [false; 32];
-    let mut i = 0;
-    while i < 32 {
-        let v = tables::load_task(m, i);
-        flags[i] = expires(v);
-        i += 1;
+    for i in 0..tables::TASK_PLACES {
+        flags[i] = expires(tables::load_task(m, i));
     }
     flags
 }
@@ -192,30 +182,16 @@ fn tick_slot(m: &mut [u8], i: usize, expired: [bool; 32])
         return;
     }
     let s = tables::load_slot(m, i);
-    let rest = s.without(expired);
-    tables::store_slot(m, i, rest);
+    tables::store_slot(m, i, s.without(expired));
 }
 
 fn tick_slots(m: &mut [u8], expired: [bool; 32])
     requires { TaskQueues m.old }
     ensures { (t : Tables) → m.old ≡ laid t → Limited t → m.new ≡ laid (with_slots t (map (λ s. slot_keeping s expired) t.slots)) }
 {
-    let slots = tables::slot_count(m) as usize;
-    let mut i = 0;
-    while i < slots {
+    for i in 0..tables::slot_count(m) as usize {
         tick_slot(m, i, expired);
-        i += 1;
     }
-}
-
-// Whether a tick changes the task: it waits, and not for ever.
-fn is_timed(v: Task) -> bool
-    ensures { result ≡ (waits v and leb 1 v.ticks) }
-{
-    if v.answer != rules::WAITING {
-        return false;
-    }
-    0 < v.ticks
 }
 
 // Most tasks are not in a timed wait, and are left as they lie.
@@ -223,15 +199,11 @@ fn tick_tasks(m: &mut [u8])
     requires { (length m.old ≡ tables_length) × (word_at m.old 0 ≤ 32) }
     ensures { (t : Tables) → m.old ≡ laid t → m.new ≡ laid (with_tasks t (map ticked t.tasks)) }
 {
-    let tasks = tables::task_count(m) as usize;
-    let mut i = 0;
-    while i < tasks {
+    for i in 0..tables::task_count(m) as usize {
         let v = tables::load_task(m, i);
         if is_timed(v) {
-            let later = ticked(v);
-            tables::store_task(m, i, later);
+            tables::store_task(m, i, ticked(v));
         }
-        i += 1;
     }
 }
 
@@ -241,12 +213,10 @@ fn tick_ready(m: &mut [u8], expired: [bool; 32])
     ensures { (t : Tables) → m.old ≡ laid t → length t.ready + length (flagged expired 1) ≤ 32
         → m.new ≡ laid (with_ready t (t.ready ++ flagged expired 1)) }
 {
-    let mut i = 0;
-    while i < 32 {
+    for i in 0..tables::TASK_PLACES {
         if expired[i] {
             tables::add_ready(m, i as u32 + 1);
         }
-        i += 1;
     }
 }
 

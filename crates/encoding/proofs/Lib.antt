@@ -1,7 +1,7 @@
-pub mod Scripts
 pub mod Every
-pub mod Reading
-pub mod Stepping
+pub mod ReadingRows
+pub mod ReadingEvents
+pub mod Found
 pub mod Laid
 pub mod Noting
 pub mod Clearing

@@ -8,6 +8,7 @@ use Rattle.rules.specs.Numbers.{successful, waiting}
 use Rattle.sections.specs.Scripts.{Step, Memory, Grant}
 use Rattle.sections.specs.Scripts.Step.{Load, Store, Set, Add, NoStep}
 use Rattle.sections.specs.Run.{Place, at, place_after, grant_if}
+use Rattle.encoding.specs.declared.places.Place.{Place as PlaceRead}
 
 abbrev pub memory : List ℕ → List ℕ → Memory
 memory cells locals = record { cells = cells; locals = locals }
@@ -19,6 +20,9 @@ reaches cells (Store local cell) = ltb local 8 and ltb cell cells
 reaches cells (Set local number) = nat_lt local 8
 reaches cells (Add local other) = ltb local 8 and ltb other 8
 reaches cells NoStep = true
+
+abbrev pub place_of : PlaceRead → Place
+place_of p = at p.section p.position
 
 abbrev pub place_row : Place → List ℕ
 place_row p = p.section ∷ p.position ∷ []
@@ -32,6 +36,10 @@ laid_places ns ps = sets ns 0 (rows (map place_row ps))
 
 unfoldable pub laid_grants : List ℕ → List Grant → List ℕ
 laid_grants ns gs = sets ns 0 (length gs ∷ rows (map grant_row gs))
+
+-- script i's place is put into the lent numbers
+abbrev pub PutsPlace : (places : List ℕ) (i : ℕ) (p : Place) (places' : List ℕ) → Type 0
+PutsPlace places i p places' = (ns : List ℕ) (ps : List Place) → places ≡ laid_places ns ps → i < length ps → places' ≡ laid_places ns (slice_set ps i p)
 
 -- the places and grants that lent numbers hold, over what was lent
 pub record Reports (places₀ grants₀ : List ℕ) (ps : List Place) (gs : List Grant) (places₁ grants₁ : List ℕ) : Type 0 where

@@ -1,3 +1,5 @@
 pub mod Rows
+pub mod Left
 pub mod Events
+pub mod Kinds
 pub mod Laid

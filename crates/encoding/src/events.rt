@@ -1,171 +1,163 @@
 // Events as numbers laid end to end: a kind, then its numbers.
-ghost use Rattle.std.specs.Prelude.{◌≡◌, ◌≤◌, slice_index};
+ghost use Rattle.std.specs.Prelude.{◌≡◌, ◌≤◌, slice_index, Some};
+ghost use Rattle.std.specs.Iterator.{YieldsFirstBy, item_count};
 ghost use Rattle.sections.specs.Run.{caller_of};
-ghost use Rattle.encoding.specs.Events.{size_of, call_of, event_size, priorities_of};
+ghost use Rattle.encoding.specs.Events.{size_of, event_size, event_at, events_of};
+ghost use Rattle.encoding.specs.Kinds.{number_of, KindOf, event_from, SplitEvent};
 
+use super::places::number_at;
 use rules::Call;
 
-pub const TURN: u32 = 1;
-
-pub const START: u32 = 2;
-
-const CREATE: u32 = 3;
-
-const IDENT: u32 = 4;
-
-const DELETE: u32 = 5;
-
-const OBTAIN: u32 = 6;
-
-const RELEASE: u32 = 7;
-
-const FLUSH: u32 = 8;
-
-const TICK: u32 = 9;
-
-// The number at an index, 0 behind the last.
-pub fn number_at(s: &[u32], i: usize) -> u32
-    ensures { result ≡ slice_index s.now i }
-{
-    if i < s.len() {
-        return s[i];
-    }
-    0
+#[derive(Clone, Copy)]
+enum Kind {
+    Turn,
+    Start,
+    Create,
+    Ident,
+    Delete,
+    Obtain,
+    Release,
+    Flush,
+    Tick,
 }
 
-// How many numbers an event of a kind is, 0 where there is no such kind.
-fn size_of(kind: u32, count: u32) -> usize
-    ensures { result ≡ size_of kind count }
-{
-    if kind == TURN {
-        return 2;
-    }
-    if kind == START {
-        return 3 + (count as usize);
-    }
-    if kind == CREATE {
-        return 6;
-    }
-    if kind == IDENT {
-        return 2;
-    }
-    if kind == DELETE {
-        return 3;
-    }
-    if kind == OBTAIN {
-        return 5;
-    }
-    if kind == RELEASE {
-        return 3;
-    }
-    if kind == FLUSH {
-        return 3;
-    }
-    if kind == TICK {
-        return 1;
-    }
-    0
+/// A turn of a script's task, or a call by someone else. The priorities are those of a start.
+#[derive(Clone, Copy)]
+pub enum Event<'a> {
+    Turn { task: u32 },
+    Call { call: Call, priorities: &'a [u32] },
 }
 
-fn call_of(kind: u32, a: u32, b: u32, c: u32, d: u32, e: u32) -> Call
-    ensures { result ≡ call_of kind a b c d e }
+fn kind_of(number: u32) -> Option<Kind>
+    ensures { KindOf number result }
 {
-    if kind == START {
-        return Call::Start { slots: a };
+    match number {
+        1 => Some(Kind::Turn),
+        2 => Some(Kind::Start),
+        3 => Some(Kind::Create),
+        4 => Some(Kind::Ident),
+        5 => Some(Kind::Delete),
+        6 => Some(Kind::Obtain),
+        7 => Some(Kind::Release),
+        8 => Some(Kind::Flush),
+        9 => Some(Kind::Tick),
+        _ => None,
     }
-    if kind == CREATE {
-        return Call::Create {
+}
+
+// How many numbers an event of a kind is. A start has as many priorities as it says.
+#[tactic(auto, unfolding(crate::specs::Events::size_of, laws::specs::Choose::choose))]
+fn size_of(kind: Kind, count: u32) -> usize
+    ensures { result ≡ size_of (number_of kind) count }
+{
+    match kind {
+        Kind::Start => 3 + (count as usize),
+        Kind::Create => 6,
+        Kind::Obtain => 5,
+        Kind::Delete | Kind::Release | Kind::Flush => 3,
+        Kind::Turn | Kind::Ident => 2,
+        Kind::Tick => 1,
+    }
+}
+
+// The event of a kind that the numbers begin with.
+fn event_of(kind: Kind, e: &[u32]) -> Event<'_>
+    requires { (1 ≤ event_size e.now) × (slice_index e.now 0 ≡ number_of kind) }
+    ensures { event_from (Some result) ≡ event_at e.now }
+{
+    let a = number_at(e, 1);
+    let b = number_at(e, 2);
+    let call = match kind {
+        Kind::Turn => return Event::Turn { task: a },
+        Kind::Start => {
+            return Event::Call {
+                call: Call::Start { slots: a },
+                priorities: &e[3..3 + b as usize],
+            };
+        }
+        Kind::Create => Call::Create {
             caller: a,
             name: b,
-            count: c,
-            attributes: d,
-            maximum: e,
-        };
-    }
-    if kind == IDENT {
-        return Call::Ident { name: a };
-    }
-    if kind == DELETE {
-        return Call::Delete { caller: a, id: b };
-    }
-    if kind == OBTAIN {
-        let wait = rules::wait_of(c, d);
-        return Call::Obtain {
+            count: number_at(e, 3),
+            attributes: number_at(e, 4),
+            maximum: number_at(e, 5),
+        },
+        Kind::Ident => Call::Ident { name: a },
+        Kind::Delete => Call::Delete { caller: a, id: b },
+        Kind::Obtain => Call::Obtain {
             caller: a,
             id: b,
-            wait: wait,
-        };
-    }
-    if kind == RELEASE {
-        return Call::Release { caller: a, id: b };
-    }
-    if kind == FLUSH {
-        return Call::Flush { caller: a, id: b };
-    }
-    Call::Tick
+            wait: rules::wait_of(number_at(e, 3), number_at(e, 4)),
+        },
+        Kind::Release => Call::Release { caller: a, id: b },
+        Kind::Flush => Call::Flush { caller: a, id: b },
+        Kind::Tick => Call::Tick,
+    };
+    let priorities = &[];
+    Event::Call { call, priorities }
 }
 
-// The size of the event that the numbers begin with, 0 where they begin with none.
-pub fn event_size(e: &[u32]) -> usize
-    ensures { result ≡ event_size e.now }
+// The event that numbers begin with, and those behind it. None where they begin with no kind, or with an event cut short.
+fn split_event(e: &[u32]) -> Option<(Event<'_>, &[u32])>
+    ensures { SplitEvent e.now result }
 {
-    let size = size_of(number_at(e, 0), number_at(e, 2));
-    if size <= e.len() {
-        return size;
+    let kind = kind_of(number_at(e, 0))?;
+    let size = size_of(kind, number_at(e, 2));
+    if e.len() < size {
+        return None;
     }
-    0
+    Some((event_of(kind, e), &e[size..]))
 }
 
-// The call of an event that is no turn.
-pub fn call_at(e: &[u32]) -> Call
-    ensures { result ≡ call_of (slice_index e.now 0) (slice_index e.now 1) (slice_index e.now 2) (slice_index e.now 3)
-        (slice_index e.now 4) (slice_index e.now 5) }
-{
-    call_of(
-        number_at(e, 0),
-        number_at(e, 1),
-        number_at(e, 2),
-        number_at(e, 3),
-        number_at(e, 4),
-        number_at(e, 5),
-    )
+/// The events that are left. What is no event is `None`, and with it the reading ends.
+#[derive(Clone, Copy)]
+pub struct Events<'a> {
+    numbers: &'a [u32],
 }
 
-// The priorities of a start, none of any other event.
-pub fn priorities_at(e: &[u32]) -> &[u32]
-    requires { 1 ≤ event_size e.now }
-    ensures { result.now ≡ priorities_of e.now }
-{
-    let kind = number_at(e, 0);
-    let count = number_at(e, 2) as usize;
-    if kind == START {
-        return &e[3..3 + count];
+impl<'a> Events<'a> {
+    ghost use Rattle.encoding.specs.Kinds.{events_left};
+
+    pub fn new(numbers: &'a [u32]) -> Events<'a>
+        ensures { events_left result ≡ events_of numbers.now }
+    {
+        Events { numbers }
     }
-    &e[0..0]
 }
 
-// The caller of a call, 0 where it has none.
+impl<'a> Iterator for Events<'a> {
+    ghost use Rattle.encoding.specs.Kinds.{event_from, events_left};
+
+    type Item = Option<Event<'a>>;
+
+    ghost next_gives = { YieldsFirstBy event_from events_left };
+
+    ghost remaining = { item_count events_left };
+
+    #[tactic(auto, using(crate::proofs::ReadingEvents::events_end), unfolding(crate::specs::Events::events_from))]
+    fn next(&mut self) -> Option<Option<Event<'a>>> {
+        if self.numbers.is_empty() {
+            return None;
+        }
+        if let Some((event, rest)) = split_event(self.numbers) {
+            self.numbers = rest;
+            return Some(Some(event));
+        }
+        self.numbers = &[];
+        Some(None)
+    }
+}
+
+/// The caller of a call, 0 where it has none.
 pub fn caller_of(call: Call) -> u32
     ensures { result ≡ caller_of call }
 {
     match call {
-        Call::Start { slots: _ } => 0,
-        Call::Create {
-            caller,
-            name: _,
-            count: _,
-            attributes: _,
-            maximum: _,
-        } => caller,
-        Call::Ident { name: _ } => 0,
-        Call::Delete { caller, id: _ } => caller,
-        Call::Obtain {
-            caller,
-            id: _,
-            wait: _,
-        } => caller,
-        Call::Release { caller, id: _ } => caller,
-        Call::Flush { caller, id: _ } => caller,
-        Call::Tick => 0,
+        Call::Create { caller, .. }
+        | Call::Delete { caller, .. }
+        | Call::Obtain { caller, .. }
+        | Call::Release { caller, .. }
+        | Call::Flush { caller, .. } => caller,
+        Call::Start { .. } | Call::Ident { .. } | Call::Tick => 0,
     }
 }

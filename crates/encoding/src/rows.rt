@@ -1,120 +1,97 @@
 // Scripts as rows of four numbers: a kind and what it takes.
-ghost use Rattle.std.specs.Prelude.{◌≡◌, ◌/◌, ◌<◌, length, drop};
-ghost use Rattle.laws.specs.Choose.{◌or◌};
-ghost use Rattle.encoding.specs.Rows.{row_at, rows_of, begins_script, begins_section, steps_from, scripts_of, SectionRow, ScriptRow};
+ghost use Rattle.std.specs.Prelude.{◌≡◌, ◌*◌, ◌+◌, ◌≤◌, length};
+ghost use Rattle.std.specs.Iterator.{YieldsFirst, item_count};
+ghost use Rattle.encoding.specs.Rows.{step_in, row_in, row_at, rows_of};
 
-use super::{Found, Row};
-
-pub const SCRIPT: u32 = 1;
-
-pub const SECTION: u32 = 2;
-
-pub const LOAD: u32 = 3;
-
-pub const STORE: u32 = 4;
-
-pub const SET: u32 = 5;
-
-pub const ADD: u32 = 6;
-
-pub fn row_count(scripts: &[u32]) -> usize
-    ensures { result ≡ length scripts.now / 4 }
-{
-    scripts.len() / 4
+/// What a step does, in cells and in the locals of its task.
+#[derive(Clone, Copy, Debug, PartialEq, Eq)]
+pub enum Step {
+    Load { cell: u32, local: u32 },
+    Store { local: u32, cell: u32 },
+    Set { local: u32, number: u32 },
+    Add { local: u32, other: u32 },
 }
 
-pub fn row_at(scripts: &[u32], r: usize) -> Row
-    requires { r < length scripts.now / 4 }
-    ensures { result ≡ row_at scripts.now r }
+/// A row: a script or a section begins with it, or it is a step, or none where its kind is no other.
+#[derive(Clone, Copy, Debug, PartialEq, Eq)]
+pub enum Row {
+    Script { task: u32 },
+    Section { id: u32, options: u32, timeout: u32 },
+    Step(Option<Step>),
+}
+
+const SCRIPT: u32 = 1;
+
+const SECTION: u32 = 2;
+
+const LOAD: u32 = 3;
+
+const STORE: u32 = 4;
+
+const SET: u32 = 5;
+
+const ADD: u32 = 6;
+
+#[tactic(auto, using(laws::proofs::Choose::cases), unfolding(crate::specs::Rows::step_in))]
+fn step_in(kind: u32, a: u32, b: u32) -> Option<Step>
+    ensures { result ≡ step_in kind a b }
 {
-    let at = 4 * r;
-    Row {
-        kind: scripts[at],
-        a: scripts[at + 1],
-        b: scripts[at + 2],
-        c: scripts[at + 3],
+    match kind {
+        LOAD => Some(Step::Load { cell: a, local: b }),
+        STORE => Some(Step::Store { local: a, cell: b }),
+        SET => Some(Step::Set {
+            local: a,
+            number: b,
+        }),
+        ADD => Some(Step::Add { local: a, other: b }),
+        _ => None,
     }
 }
 
-// Whether a script or a section begins with a row.
-fn begins(row: Row) -> bool
-    ensures { result ≡ (begins_script row or begins_section row) }
+#[tactic(auto, using(laws::proofs::Choose::cases), unfolding(crate::specs::Rows::row_in))]
+fn row_in(kind: u32, a: u32, b: u32, c: u32) -> Row
+    ensures { result ≡ row_in kind a b c }
 {
-    if row.kind == SCRIPT {
-        return true;
+    match kind {
+        SCRIPT => Row::Script { task: a },
+        SECTION => Row::Section {
+            id: a,
+            options: b,
+            timeout: c,
+        },
+        _ => Row::Step(step_in(kind, a, b)),
     }
-    row.kind == SECTION
 }
 
-// How many steps stand from a row on.
-pub fn step_count(scripts: &[u32], from: usize) -> usize
-    ensures { result ≡ length (steps_from (drop from (rows_of scripts.now))) }
-{
-    let n = row_count(scripts);
-    let mut r = from;
-    while r < n {
-        if begins(row_at(scripts, r)) {
-            return r - from;
-        }
-        r += 1;
-    }
-    r - from
+/// The rows that are left. Numbers that make no whole row are none.
+#[derive(Clone, Copy)]
+pub struct Rows<'a> {
+    numbers: &'a [u32],
 }
 
-// The row of section k of those from a row on, before the next script; the number of rows where there is none.
-pub fn section_of(scripts: &[u32], from: usize, k: usize) -> usize
-    ensures { SectionRow (rows_of scripts.now) from k result }
-{
-    let n = row_count(scripts);
-    let mut passed = 0;
-    let mut r = from;
-    while r < n {
-        let row = row_at(scripts, r);
-        if row.kind == SCRIPT {
-            return n;
-        }
-        if row.kind == SECTION {
-            if passed == k {
-                return r;
-            }
-            passed += 1;
-        }
-        r += 1;
+impl<'a> Rows<'a> {
+    ghost use Rattle.encoding.specs.Left.{rows_left};
+
+    pub fn new(numbers: &'a [u32]) -> Rows<'a>
+        ensures { rows_left result ≡ rows_of numbers.now }
+    {
+        Rows { numbers }
     }
-    n
 }
 
-pub fn script_of(scripts: &[u32], q: u32) -> Found
-    ensures { ScriptRow (rows_of scripts.now) q result.index result.row }
-{
-    let n = row_count(scripts);
-    let mut i = 0;
-    let mut r = 0;
-    while r < n {
-        let row = row_at(scripts, r);
-        if row.kind == SCRIPT {
-            if row.a == q {
-                return Found { index: i, row: r };
-            }
-            i += 1;
-        }
-        r += 1;
-    }
-    Found { index: i, row: n }
-}
+impl<'a> Iterator for Rows<'a> {
+    ghost use Rattle.encoding.specs.Left.{rows_left};
 
-pub fn script_count(scripts: &[u32]) -> usize
-    ensures { result ≡ length (scripts_of scripts.now) }
-{
-    let n = row_count(scripts);
-    let mut i = 0;
-    let mut r = 0;
-    while r < n {
-        let row = row_at(scripts, r);
-        if row.kind == SCRIPT {
-            i += 1;
-        }
-        r += 1;
+    type Item = Row;
+
+    ghost next_gives = { YieldsFirst rows_left };
+
+    ghost remaining = { item_count rows_left };
+
+    #[tactic(auto, using(crate::proofs::ReadingRows::rows_read))]
+    fn next(&mut self) -> Option<Row> {
+        let ([kind, a, b, c], rest) = self.numbers.split_first_chunk::<4>()?;
+        self.numbers = rest;
+        Some(row_in(*kind, *a, *b, *c))
     }
-    i
 }

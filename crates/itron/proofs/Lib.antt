@@ -1,2 +1,2 @@
 pub mod Signed
-pub mod Checking
+pub mod Telling

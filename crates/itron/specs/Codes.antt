@@ -1,6 +1,8 @@
 -- Request 5: ITRON's codes, and what a task's answer is among them.
-use Rattle.std.specs.Prelude.{ℕ, eqb, ℤ, pos, neg_ℤ}
+use Rattle.std.specs.Prelude.{◌≡◌, ℕ, eqb, ℤ, pos, neg_ℤ, Result, Ok, Err}
 use Rattle.laws.specs.Choose.{choose}
+use Rattle.itron.specs.declared.codes.Code.{Code}
+use Rattle.itron.specs.declared.codes.Code.TheVariants.{Sys, NoMem, RsAtr, Par, Id, NoExs, Obj, Ctx, QOvr, Dlt, TmOut, RlWai}
 use Rattle.rules.specs.Numbers.{successful, timeout, object_was_deleted, unsatisfied, waiting}
 
 abbrev pub minus : ℕ → ℤ
@@ -45,6 +47,34 @@ e_tmout = minus 85
 
 abbrev pub e_rlwai : ℤ
 e_rlwai = minus 86
+
+-- the number of each error code
+abbrev pub number_of : Code → ℤ
+number_of Sys = e_sys
+number_of NoMem = e_nomem
+number_of RsAtr = e_rsatr
+number_of Par = e_par
+number_of Id = e_id
+number_of NoExs = e_noexs
+number_of Obj = e_obj
+number_of Ctx = e_ctx
+number_of QOvr = e_qovr
+number_of Dlt = e_dlt
+number_of TmOut = e_tmout
+number_of RlWai = e_rlwai
+
+-- what a check gives before the rest: its refusal's number, or theirs
+abbrev pub or_rest : {A : Type 0} → Result A Code → ℤ → ℤ
+or_rest (Ok x) rest = rest
+or_rest (Err e) rest = number_of e
+
+-- and with none behind it
+abbrev pub code_or_ok : {A : Type 0} → Result A Code → ℤ
+code_or_ok r = or_rest r e_ok
+
+-- a check does what a definition says, whatever checks follow
+abbrev pub Checks : {A : Type 0} → Result A Code → (ℤ → ℤ) → Type 0
+Checks r check = (rest : ℤ) → or_rest r rest ≡ check rest
 
 -- a wait that begins, or goes on
 abbrev pub began : ℤ

@@ -13,7 +13,7 @@ use Rattle.laws.specs.Choose.{choose, ◌and◌, isnt}
 use Rattle.laws.proofs.Choose.{choose_same, tested, never, if_yes, if_no}
 use Rattle.line.specs.Line.{are_numbers, numbers, spelled}
 use Rattle.line.specs.Scan.{first, others, all_numbers, goes_on, digit_behind}
-use Rattle.line.specs.declared.Digit.TheVariants.{Broken, Value}
+use Rattle.std.specs.Prelude.{Some, None}
 use Rattle.line.proofs.Fields.{others_none, others_space, first_cons, others_cons, from_here, field_ends, in_line}
 use Rattle.line.proofs.Digits.{goes_on_by, is_number_lem}
 
@@ -43,19 +43,19 @@ test_holds true a b x e = refl
 test_holds false a b x e = never e refl
 
 module _ (digits value b : ℕ) where
-  no_digit : digit_behind digits value b ≡ Broken → goes_on digits value b ≡ false
+  no_digit : digit_behind digits value b ≡ None → goes_on digits value b ≡ false
   unfolding digit_behind
   no_digit e =
-      ⊎_elim (λ (t : goes_on digits value b ≡ true). let f = if_yes (Value (value * 10 + (b - 48))) Broken t in let z : ◌≡◌ {A = ℕ} 0 1 = cc in absurd
+      ⊎_elim (λ (t : goes_on digits value b ≡ true). let f = if_yes (Some (value * 10 + (b - 48))) None t in let z : ◌≡◌ {A = ℕ} 0 1 = cc in absurd
       (omega arith))
       (λ (t : goes_on digits value b ≡ false). t)
       (tested (goes_on digits value b))
 
-  a_digit : (v : ℕ) → digit_behind digits value b ≡ Value v → (goes_on digits value b ≡ true) × (v ≡ value * 10 + (b - 48))
+  a_digit : (v : ℕ) → digit_behind digits value b ≡ Some v → (goes_on digits value b ≡ true) × (v ≡ value * 10 + (b - 48))
   unfolding digit_behind
   a_digit v e =
-      ⊎_elim (λ (t : goes_on digits value b ≡ true). let f = if_yes (Value (value * 10 + (b - 48))) Broken t in (t, cc))
-      (λ (t : goes_on digits value b ≡ false). let f = if_no (Value (value * 10 + (b - 48))) Broken t in let z : ◌≡◌ {A = ℕ} 0 1 = cc in absurd (omega arith))
+      ⊎_elim (λ (t : goes_on digits value b ≡ true). let f = if_yes (Some (value * 10 + (b - 48))) None t in (t, cc))
+      (λ (t : goes_on digits value b ≡ false). let f = if_no (Some (value * 10 + (b - 48))) None t in let z : ◌≡◌ {A = ℕ} 0 1 = cc in absurd (omega arith))
       (tested (goes_on digits value b))
 
 -- no lone zero stands before a byte: it is the first, or what stands there is more than 0
@@ -118,11 +118,11 @@ module _ (l : List ℕ) (at : ℕ) (ns : List ℕ) where
           (some (ns ++ spelled value (b ∷ first rest) ∷ numbers fs)) none) (others_cons b rest goes)
 
       -- a byte that breaks the number
-      pub number_breaks : digit_behind digits value (get_or l at 32) ≡ Broken → inside ns digits value (drop at l) ≡ none
+      pub number_breaks : digit_behind digits value (get_or l at 32) ≡ None → inside ns digits value (drop at l) ≡ none
       number_breaks e = one_byte ∙ test_fails _ _ _ _ (no_digit digits value (get_or l at 32) e)
 
       -- a digit more
-      pub number_goes_on : (v : ℕ) → digit_behind digits value (get_or l at 32) ≡ Value v
+      pub number_goes_on : (v : ℕ) → digit_behind digits value (get_or l at 32) ≡ Some v
           → inside ns digits value (drop at l) ≡ inside ns (suc digits) v (drop (at + 1) l)
       unfolding inside
       number_goes_on v e =

@@ -17,11 +17,10 @@ use Rattle.rules.specs.declared.Call.{Call}
 use Rattle.rules.specs.declared.Call.TheVariants.{Start, Create, Ident, Delete, Obtain, Release, Flush, Tick}
 use Rattle.rules.specs.Semaphore.{wait_of}
 use Rattle.rules.specs.Runs.{Request}
-use Rattle.line.specs.declared.Line.{Line}
+use Rattle.line.specs.declared.Request.{Request as Asked}
 use Rattle.line.specs.declared.Word.{Word}
 use Rattle.line.specs.declared.Word.TheVariants as w
-use Rattle.line.specs.declared.Numbers.{Numbers}
-use Rattle.line.specs.declared.Numbers.TheVariants.{Broken, Count}
+use Rattle.std.specs.Prelude.{Option as Answered, Some, None}
 use Rattle.line.specs.Line.{line_of, max_line, scanned, request_of, asked, taking, are_numbers, numbers, same_bytes, start_word, create_word}
 use Rattle.line.specs.Line.{ident_word, delete_word, obtain_word, release_word, flush_word, tick_word}
 use Rattle.line.specs.Scan.{first, others, all_numbers, numbers_read, placed, word_of, with_count, asked_by}
@@ -32,9 +31,10 @@ rest_taken zero l = refl
 rest_taken (suc m) [] = sym (take-nil (suc m - 1))
 rest_taken (suc m) (x ∷ xs) = let s : m ≡ suc m - 1 = omega arith in ap (λ (n : ℕ). take n xs) s
 
--- what a word asks with `k` numbers, of which the first five are those of `ns`
-abbrev asked_of : Word → ℕ → List ℕ → Line
-asked_of v k ns = asked_by v k (get_or ns 0 0) (get_or ns 1 0) (get_or ns 2 0) (get_or ns 3 0) (get_or ns 4 0)
+-- what a word asks with the first `k` of `ns`, and none where it is no word
+abbrev asked_of : Answered Word → ℕ → List ℕ → Answered Asked
+asked_of None k ns = None
+asked_of (Some v) k ns = asked_by v k ns
 
 -- ---- the numbers that are read are the first `k` of `ns`
 
@@ -47,15 +47,15 @@ module _ (ns : List ℕ) (k : ℕ) (fits : k ≤ length ns) where
       (λ (t : eqb k arity ≡ true).
       if_yes (asked (call (take k ns))) none t
       ∙ ap asked (same-call (eqb-true k arity t))
-      ∙ sym (ap (λ (l : Line). scanned l ns) (if_yes _ _ t)))
-      (λ (t : eqb k arity ≡ false). if_no (asked (call (take k ns))) none t ∙ sym (ap (λ (l : Line). scanned l ns) (if_no _ _ t)))
+      ∙ sym (ap (λ (l : Answered Asked). scanned l ns) (if_yes _ _ t)))
+      (λ (t : eqb k arity ≡ false). if_no (asked (call (take k ns))) none t ∙ sym (ap (λ (l : Answered Asked). scanned l ns) (if_no _ _ t)))
       (tested (eqb k arity))
 
   read_at : (i : ℕ) → i < k → get_or (take k ns) i 0 ≡ get_or ns i 0
   read_at i h = get_or-take k ns i 0 h
 
   starts : choose (leb 1 (length (take k ns))) (some (record { call = Start (get_or (take k ns) 0 0); priorities = drop 1 (take k ns) })) none
-      ≡ scanned (asked_of w.Start k ns) ns
+      ≡ scanned (asked_of (Some w.Start) k ns) ns
   unfolding asked_by
   starts =
       let taken : List ℕ = drop 1 (take k ns) in
@@ -67,12 +67,12 @@ module _ (ns : List ℕ) (k : ℕ) (fits : k ≤ length ns) where
       if_yes (made (get_or (take k ns) 0 0) taken) none t
       ∙ ap (λ (x : ℕ). made x taken) (read_at 0 (omega arith))
       ∙ ap (made (get_or ns 0 0)) (rest_taken k ns)
-      ∙ sym (ap (λ (l : Line). scanned l ns) (if_yes _ _ t)))
-      (λ (t : leb 1 k ≡ false). if_no (made (get_or (take k ns) 0 0) taken) none t ∙ sym (ap (λ (l : Line). scanned l ns) (if_no _ _ t)))
+      ∙ sym (ap (λ (l : Answered Asked). scanned l ns) (if_yes _ _ t)))
+      (λ (t : leb 1 k ≡ false). if_no (made (get_or (take k ns) 0 0) taken) none t ∙ sym (ap (λ (l : Answered Asked). scanned l ns) (if_no _ _ t)))
       (tested (leb 1 k))
 
   -- a test of the word picks in both
-  picks : (t : Bool) (x y : Option Request) (v v' : Word) → x ≡ scanned (asked_of v k ns) ns
+  picks : (t : Bool) (x y : Option Request) (v v' : Answered Word) → x ≡ scanned (asked_of v k ns) ns
       → y ≡ scanned (asked_of v' k ns) ns
       → choose t x y ≡ scanned (asked_of (choose t v v') k ns) ns
   unfolding choose
@@ -133,7 +133,7 @@ module _ (bs : List ℕ) (n : ℕ) (short : length bs ≤ max_line) (ends : n �
       (some (numbers (others bs))) none t in let g = ap all_numbers rest_is in let z : ◌≡◌ {A = ℕ} 0 1 = cc in absurd (omega arith))
       (tested (are_numbers (others bs)))
 
-  pub line_read : (ns : List ℕ) (k : ℕ) (r : Line) → all_numbers (others (drop n bs)) ≡ some (take k ns) → k ≤ length ns
+  pub line_read : (ns : List ℕ) (k : ℕ) (r : Answered Asked) → all_numbers (others (drop n bs)) ≡ some (take k ns) → k ≤ length ns
       → r ≡ asked_of (word_of (take n bs)) k ns
       → line_of bs ≡ scanned r ns
   line_read ns k r e fits asks =
@@ -141,34 +141,34 @@ module _ (bs : List ℕ) (n : ℕ) (short : length bs ≤ max_line) (ends : n �
       line_numbers (take k ns) e
       ∙ request_is ns k fits (first bs)
       ∙ ap (λ (f : List ℕ). scanned (asked_of (word_of f) k ns) ns) word
-      ∙ sym (ap (λ (l : Line). scanned l ns) asks)
+      ∙ sym (ap (λ (l : Answered Asked). scanned l ns) asks)
 
-  unknown_word : (ns : List ℕ) → word_of (first bs) ≡ w.Unknown → request_of (first bs) ns ≡ none
+  unknown_word : (ns : List ℕ) → word_of (first bs) ≡ None → request_of (first bs) ns ≡ none
   unfolding asked_by
   unknown_word ns e =
       ap (request_of (first bs)) (sym (take-length ns))
       ∙ request_is ns (length ns) (le_refl (length ns)) (first bs)
-      ∙ ap (λ (v : Word). scanned (asked_of v (length ns) ns) ns) e
+      ∙ ap (λ (v : Answered Word). scanned (asked_of v (length ns) ns) ns) e
 
   -- the same from what the code's functions answer
-  pub scan_unknown : (word : Word) → word ≡ word_of (take n bs) → word ≡ w.Unknown → line_of bs ≡ none
+  pub scan_unknown : (word : Answered Word) → word ≡ word_of (take n bs) → word ≡ None → line_of bs ≡ none
   scan_unknown word is e =
       let there : first bs ≡ take n bs = word_is bs ∙ ap (λ (m : ℕ). take m bs) (sym ends) in
       by_numbers
       ∙ ap (λ (r : Option Request). choose (are_numbers (others bs)) r none) (unknown_word (numbers (others bs)) (ap word_of there ∙ sym is ∙ e))
       ∙ choose_same (are_numbers (others bs)) none
 
-  pub scan_broken : (x : Numbers) (ns : List ℕ) → all_numbers (others (drop n bs)) ≡ numbers_read x ns → x ≡ Broken → line_of bs ≡ none
-  scan_broken x ns e b = line_broken (e ∙ ap (λ (x : Numbers). numbers_read x ns) b)
+  pub scan_broken : (x : Answered ℕ) (ns : List ℕ) → all_numbers (others (drop n bs)) ≡ numbers_read x ns → x ≡ None → line_of bs ≡ none
+  scan_broken x ns e b = line_broken (e ∙ ap (λ (x : Answered ℕ). numbers_read x ns) b)
 
-  pub scan_read : (x : Numbers) (ns : List ℕ) (k : ℕ) (word : Word) (r : Line) → all_numbers (others (drop n bs)) ≡ numbers_read x ns → placed x ≤ length ns
-      → x ≡ Count k
-      → word ≡ word_of (take n bs)
-      → r ≡ asked_of word k ns
+  pub scan_read : (x : Answered ℕ) (ns : List ℕ) (k : ℕ) (word : Word) (r : Answered Asked) → all_numbers (others (drop n bs)) ≡ numbers_read x ns → placed x ≤ length ns
+      → x ≡ Some k
+      → Some word ≡ word_of (take n bs)
+      → r ≡ asked_by word k ns
       → line_of bs ≡ scanned r ns
   scan_read x ns k word r e fits counts is asks =
-      line_read ns k r (e ∙ ap (λ (x : Numbers). numbers_read x ns) counts) (subst (λ (x : Numbers). placed x ≤ length ns) counts fits)
-      (asks ∙ ap (λ (v : Word). asked_of v k ns) is)
+      line_read ns k r (e ∙ ap (λ (x : Answered ℕ). numbers_read x ns) counts) (subst (λ (x : Answered ℕ). placed x ≤ length ns) counts fits)
+      (asks ∙ ap (λ (v : Answered Word). asked_of v k ns) is)
 
 pub word_fits : (bs : List ℕ) → length (first bs) ≤ length bs
 word_fits bs = omega (arith, ap length (word_is bs), length-take (length (first bs)) bs)

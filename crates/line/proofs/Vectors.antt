@@ -10,7 +10,7 @@ use Rattle.rules.specs.declared.Wait.TheVariants.{Poll, Forever, Ticks}
 use Rattle.rules.specs.declared.Answer.{Answer}
 use Rattle.rules.specs.Semaphore.{wait_of}
 use Rattle.rules.specs.Runs.{Request}
-use Rattle.line.specs.Line.{line_of, fields, all_digits, spelled, is_number, are_numbers, numbers, same_bytes, request_of, asked, start_word}
+use Rattle.line.specs.Line.{line_of, fields, all_digits, spelled, is_number, are_numbers, numbers, request_of, asked, start_word}
 use Rattle.line.specs.Print.{answer_line, digits_before, decimal}
 
 -- `n` times the same bytes
@@ -160,6 +160,6 @@ printed =
 
 -- one statement: each good line is its request, each bad line none, and answers are printed so
 vectors : (map line_of good ≡ requests) × (map line_of bad ≡ replicate 35 none) × (map answer_line given ≡ printed)
-unfolding times starting good bad requests given printed choose wait_of line_of fields all_digits spelled is_number are_numbers numbers same_bytes request_of
+unfolding times starting good bad requests given printed choose wait_of line_of fields all_digits spelled is_number are_numbers numbers request_of
     answer_line digits_before decimal
 vectors = (refl, refl, refl)

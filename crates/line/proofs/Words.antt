@@ -1,46 +1,79 @@
--- The comparison of two words byte by byte, the length of a line's first word, and what a word asks.
-use mathlib.Core.Path.{◌≡◌, refl, ap, ◌∙◌}
-use mathlib.Core.Bool.{Bool, true, false}
-use mathlib.Core.List.{List, [], ◌∷◌}
-use Prim.Native.Nat.{ℕ, suc, ◌+◌, ◌≤◌, ◌<◌}
-use native.Mathlib.Numerals.{add-one}
+-- The length of a line's first word, and words that are the same byte by byte.
+use mathlib.Core.Path.{◌≡◌, refl, sym, ap, subst, ◌∙◌}
+use mathlib.Core.Logic.{◌≢◌}
+use mathlib.Core.Bool.{Bool, true, false, cond}
+use mathlib.Core.List.{List, ◌∷◌}
+use Prim.Native.Nat.{ℕ, ◌+◌, ◌<◌}
+use native.Mathlib.Omega.{arith}
+use native.Mathlib.Decide.{ℕ_discrete}
 use lib.Dec.{eqb}
-use lib.ListN.{length, get_or, drop, drop_of_length-le}
-use lib.Seq.{drop-cons}
-use Rattle.laws.specs.Choose.{◌and◌}
-use Rattle.laws.proofs.Choose.{if_eq, if_ne, choose_same}
-use Rattle.line.specs.Line.{same_bytes}
-use Rattle.line.specs.Scan.{first}
-use Rattle.line.proofs.Fields.{first_cons, from_here, field_ends, in_line}
+use lib.ListN.{length, get_or}
+use borrow.Author.Tests.{eq-eqb, ne_eqb}
+use Rattle.std.specs.Option.{MatchOption, unwrap_or}
+use Rattle.std.specs.Prelude.{Option, Some, None}
+use Rattle.std.specs.List.{position_or_len}
+use Rattle.std.proofs.lemmas.List.Recursion.{is_position_or_len}
+use Rattle.std.proofs.lemmas.List.Sums.{position_or_len_is}
+use Rattle.std.specs.Str.{bytes_eq, IsUtf8}
+use Rattle.std.proofs.Common.{rules}
+use Rattle.std.proofs.lemmas.Slice.Eq.{bytes_eq-Decides}
+use Rattle.laws.proofs.Choose.{if_no}
+use Rattle.line.specs.Line.{same_bytes, start_word, create_word, ident_word, delete_word, obtain_word, release_word, flush_word, tick_word}
+use Rattle.line.specs.Scan.{first, word_of}
+use Rattle.line.proofs.Fields.{first_none, first_space, first_cons}
 
-pub same_lengths : (a b : List ℕ) → (length a ≡ length b → ⊥) → same_bytes a b ≡ false
-unfolding same_bytes
-same_lengths [] [] d = absurd (d refl)
-same_lengths [] (y ∷ ys) d = refl
-same_lengths (x ∷ xs) [] d = refl
-same_lengths (x ∷ xs) (y ∷ ys) d =
-    ap (λ (t : Bool). eqb x y and t) (same_lengths xs ys (λ e. d (ap suc e))) ∙ choose_same (eqb x y) false
+one_byte : (b : ℕ) (bs : List ℕ) → length (first (b ∷ bs)) ≡ cond (eqb b 32) 0 (1 + length (first bs))
+one_byte b bs = elim (ℕ_discrete b 32) [
+  | yes e ↦ ap (λ (x : ℕ). length (first (x ∷ bs))) e ∙ ap length (first_space bs) ∙ sym (ap (λ (t : Bool). cond t 0 (1 + length (first bs))) (eq-eqb b 32 e))
+  | no d ↦ ap length (first_cons b bs d) ∙ omega arith ∙ sym (ap (λ (t : Bool). cond t 0 (1 + length (first bs))) (ne_eqb b 32 d))
+]
 
-module _ (a b : List ℕ) (i : ℕ) where
-  pub same_over : length a ≤ i → length b ≤ i → same_bytes (drop i a) (drop i b) ≡ true
-  unfolding same_bytes
-  same_over h k = rw (drop_of_length-le a h, drop_of_length-le b k)
+-- the first word ends before the first space
+pub word_length_is : (bs : List ℕ) → length (first bs) ≡ position_or_len (λ b. eqb b 32) bs
+word_length_is = is_position_or_len (λ bs. length (first bs)) (λ b. eqb b 32) (ap length first_none) one_byte
 
-  module _ (h : i < length a) (k : i < length b) where
-    here : same_bytes (drop i a) (drop i b) ≡ (eqb (get_or a i 0) (get_or b i 0) and same_bytes (drop (i + 1) a) (drop (i + 1) b))
-    unfolding same_bytes
-    here = rw (add-one, drop-cons a i 0 h, drop-cons b i 0 k)
+module _ (l : List ℕ) where
+  abbrev NotYet : ℕ → Type 0
+  NotYet n = (k : ℕ) → k < n → get_or l k 0 ≢ 32
 
-    pub same_here : get_or a i 0 ≡ get_or b i 0 → same_bytes (drop i a) (drop i b) ≡ same_bytes (drop (i + 1) a) (drop (i + 1) b)
-    same_here e = here ∙ if_eq (get_or a i 0) (get_or b i 0) (same_bytes (drop (i + 1) a) (drop (i + 1) b)) false e
+  -- where the search for a space ends, the first word does
+  pub first_space_is : (r : Option ℕ) → MatchOption r (NotYet (length l)) (λ i. (i < length l) × (get_or l i 0 ≡ 32) × NotYet i)
+      → unwrap_or r (length l) ≡ length (first l)
+  first_space_is None none_yet =
+      sym
+      (word_length_is l ∙ position_or_len_is (λ b. eqb b 32) l (length l) 0 (omega arith) (λ k h. ne_eqb (get_or l k 0) 32 (none_yet k h)) (λ h. absurd (omega arith)))
+  first_space_is (Some i) found =
+      sym
+      (word_length_is l ∙ position_or_len_is (λ b. eqb b 32) l i 0 (omega arith) (λ k h. ne_eqb (get_or l k 0) 32 (found.2 k h)) (λ h. eq-eqb (get_or l i 0) 32 found.1))
 
-    pub other_here : (get_or a i 0 ≡ get_or b i 0 → ⊥) → same_bytes (drop i a) (drop i b) ≡ false
-    other_here d = here ∙ if_ne (get_or a i 0) (get_or b i 0) (same_bytes (drop (i + 1) a) (drop (i + 1) b)) false d
+-- ---- what is none of the words
 
--- ---- the length of the first word, a byte more or at its end
+module _ (f : List ℕ) where
+  no_bytes : (word : List ℕ) → f ≢ word → same_bytes f word ≡ false
+  no_bytes word d = answer (bytes_eq f word) (λ e. d ((bytes_eq-Decides f word).0 e))
+    where
+      answer : (t : Bool) → (t ≡ true → ⊥) → t ≡ false
+      answer true d = absurd (d refl)
+      answer false d = refl
 
-pub word_goes_on : (l : List ℕ) (n : ℕ) → (get_or l n 32 ≡ 32 → ⊥) → length (first (drop n l)) ≡ suc (length (first (drop (n + 1) l)))
-word_goes_on l n d = ap (λ (bs : List ℕ). length (first bs)) (from_here l n (in_line l n d)) ∙ ap length (first_cons (get_or l n 32) (drop (n + 1) l) d)
+  pub no_word : f ≢ start_word → f ≢ create_word → f ≢ ident_word → f ≢ delete_word → f ≢ obtain_word → f ≢ release_word → f ≢ flush_word → f ≢ tick_word
+      → word_of f ≡ None
+  unfolding word_of
+  no_word start create ident delete obtain release flush tick =
+      if_no _ _ (no_bytes start_word start)
+      ∙ if_no _ _ (no_bytes create_word create)
+      ∙ if_no _ _ (no_bytes ident_word ident)
+      ∙ if_no _ _ (no_bytes delete_word delete)
+      ∙ if_no _ _ (no_bytes obtain_word obtain)
+      ∙ if_no _ _ (no_bytes release_word release)
+      ∙ if_no _ _ (no_bytes flush_word flush)
+      ∙ if_no _ _ (no_bytes tick_word tick)
 
-pub word_over : (l : List ℕ) (n : ℕ) → get_or l n 32 ≡ 32 → length (first (drop n l)) ≡ 0
-word_over l n e = ap length (field_ends l n e)
+  -- nor is what is no text
+  pub no_text : ¬ IsUtf8 f → word_of f ≡ None
+  no_text n =
+      no_word (other start_word (search rules)) (other create_word (search rules)) (other ident_word (search rules)) (other delete_word (search rules))
+      (other obtain_word (search rules)) (other release_word (search rules)) (other flush_word (search rules)) (other tick_word (search rules))
+    where
+      other : (word : List ℕ) → IsUtf8 word → f ≢ word
+      other word text e = n (subst IsUtf8 (sym e) text)

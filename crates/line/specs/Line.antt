@@ -1,5 +1,5 @@
 -- Document 01, "The session program": a line, from its bytes to a request or bad.
-use Rattle.std.specs.Prelude.{Bool, true, false, List, [], ◌∷◌, ℕ, ◌+◌, ◌-◌, ◌*◌, leb, eqb, length, get_or, take, drop}
+use Rattle.std.specs.Prelude.{Bool, true, List, [], ◌∷◌, ℕ, ◌+◌, ◌-◌, ◌*◌, leb, eqb, length, get_or, take, drop, bytes_eq, Option as Answered, Some, None, codes}
 use Rattle.std.proofs.Math.Option.{Option, none, some}
 use Rattle.laws.specs.Choose.{choose, ◌and◌, ◌or◌, isnt}
 use Rattle.rules.specs.declared.Call.{Call}
@@ -7,8 +7,7 @@ use Rattle.rules.specs.declared.Call.TheVariants.{Start, Create, Ident, Delete, 
 use Rattle.rules.specs.Numbers.{max_number, within}
 use Rattle.rules.specs.Semaphore.{wait_of}
 use Rattle.rules.specs.Runs.{Request}
-use Rattle.line.specs.declared.Line.{Line}
-use Rattle.line.specs.declared.Line.TheVariants.{Bad, Request as Asked}
+use Rattle.line.specs.declared.Request.{Request as Asked}
 
 -- at most 256 bytes without the newline
 abbrev pub max_line : ℕ
@@ -47,37 +46,34 @@ unfoldable pub numbers : List (List ℕ) → List ℕ
 numbers [] = []
 numbers (f ∷ fs) = spelled 0 f ∷ numbers fs
 
--- ---- the words, byte by byte
+-- ---- the words
 
-unfoldable pub same_bytes : List ℕ → List ℕ → Bool
-same_bytes [] [] = true
-same_bytes [] (y ∷ ys) = false
-same_bytes (x ∷ xs) [] = false
-same_bytes (x ∷ xs) (y ∷ ys) = let rest = same_bytes xs ys in eqb x y and rest
+abbrev pub same_bytes : List ℕ → List ℕ → Bool
+same_bytes = bytes_eq
 
 abbrev pub start_word : List ℕ
-start_word = 115 ∷ 116 ∷ 97 ∷ 114 ∷ 116 ∷ []
+start_word = codes "start"
 
 abbrev pub create_word : List ℕ
-create_word = 99 ∷ 114 ∷ 101 ∷ 97 ∷ 116 ∷ 101 ∷ []
+create_word = codes "create"
 
 abbrev pub ident_word : List ℕ
-ident_word = 105 ∷ 100 ∷ 101 ∷ 110 ∷ 116 ∷ []
+ident_word = codes "ident"
 
 abbrev pub delete_word : List ℕ
-delete_word = 100 ∷ 101 ∷ 108 ∷ 101 ∷ 116 ∷ 101 ∷ []
+delete_word = codes "delete"
 
 abbrev pub obtain_word : List ℕ
-obtain_word = 111 ∷ 98 ∷ 116 ∷ 97 ∷ 105 ∷ 110 ∷ []
+obtain_word = codes "obtain"
 
 abbrev pub release_word : List ℕ
-release_word = 114 ∷ 101 ∷ 108 ∷ 101 ∷ 97 ∷ 115 ∷ 101 ∷ []
+release_word = codes "release"
 
 abbrev pub flush_word : List ℕ
-flush_word = 102 ∷ 108 ∷ 117 ∷ 115 ∷ 104 ∷ []
+flush_word = codes "flush"
 
 abbrev pub tick_word : List ℕ
-tick_word = 116 ∷ 105 ∷ 99 ∷ 107 ∷ []
+tick_word = codes "tick"
 
 -- ---- the right number of numbers for the word; start takes one and then any count of priorities
 
@@ -108,6 +104,6 @@ line_of bs =
     choose (leb (length bs) max_line and are_numbers (drop 1 fs)) (request_of (get_or fs 0 []) (numbers (drop 1 fs))) none
 
 -- what the code's scan stands for: a start's priorities are the `count` numbers behind the first
-abbrev pub scanned : Line → List ℕ → Option Request
-scanned Bad ns = none
-scanned (Asked call count) ns = some (record { call = call; priorities = take count (drop 1 ns) })
+abbrev pub scanned : Answered Asked → List ℕ → Option Request
+scanned None ns = none
+scanned (Some r) ns = some (record { call = r.call; priorities = take r.count (drop 1 ns) })

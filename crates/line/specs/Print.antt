@@ -1,5 +1,5 @@
 -- Document 01, "The session program": the answer line, `status value next`, or `bad`.
-use Rattle.std.specs.Prelude.{List, [], ◌∷◌, ◌++◌, ℕ, zero, suc, ◌+◌, ◌/◌, ◌%◌, leb, length, take, drop}
+use Rattle.std.specs.Prelude.{List, [], ◌∷◌, ◌++◌, ℕ, zero, suc, ◌+◌, ◌/◌, ◌%◌, leb, length, take, drop, codes}
 use Rattle.laws.specs.Choose.{choose}
 use Rattle.rules.specs.declared.Answer.{Answer}
 
@@ -19,8 +19,8 @@ unfoldable pub answer_line : Answer → List ℕ
 answer_line a = decimal a.status ++ 32 ∷ decimal a.value ++ 32 ∷ decimal a.next ++ 10 ∷ []
 
 abbrev pub bad_line : List ℕ
-bad_line = 98 ∷ 97 ∷ 100 ∷ 10 ∷ []
+bad_line = codes "bad\n"
 
 -- a list with `xs` written over it at `at`
-unfoldable pub spliced : ℕ → List ℕ → List ℕ → List ℕ
+unfoldable pub spliced : {A : Type 0} → ℕ → List A → List A → List A
 spliced at xs out = take at out ++ xs ++ drop (at + length xs) out

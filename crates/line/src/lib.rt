@@ -1,18 +1,20 @@
 // A session's line: the scan of its bytes and the print of its answer.
 #![tactic(auto)]
 
-ghost use Rattle.std.specs.Prelude.{◌≡◌, ◌++◌, ◌∷◌, [], ◌+◌, ◌*◌, ◌≤◌, ◌<◌, length, get_or, take, drop};
-ghost use Rattle.line.specs.Line.{line_of, scanned, same_bytes};
-ghost use Rattle.line.specs.Scan.{first, others, all_numbers, numbers_read, placed, digit_behind, word_of, with_count, asked_by};
+ghost use Rattle.std.specs.Prelude.{◌≡◌, ◌++◌, ◌∷◌, [], ◌+◌, ◌≤◌, length, get_or, take, drop};
+ghost use Rattle.line.specs.Line.{line_of, scanned};
+ghost use Rattle.line.specs.Scan.{first, others, all_numbers, numbers_read, placed, digit_behind, word_of, with_count, started, asked_by};
 ghost use Rattle.line.specs.Print.{answer_line, bad_line, decimal, spliced};
 
+use itoa::Buffer;
 use rules::{Answer, Call, wait_of};
+use std::str::from_utf8;
 
-// What a line asks, with how many numbers stand behind a start's first: they are left in the numbers lent to the scan.
+/// What a line asks, with how many numbers stand behind a start's first: they are left in the numbers lent to the scan.
 #[derive(Clone, Copy)]
-pub enum Line {
-    Bad,
-    Request { call: Call, count: usize },
+pub struct Request {
+    pub call: Call,
+    pub count: usize,
 }
 
 // The words that a line may begin with.
@@ -26,114 +28,53 @@ enum Word {
     Release,
     Flush,
     Tick,
-    Unknown,
-}
-
-// What one more byte makes of a number.
-#[derive(Clone, Copy)]
-enum Digit {
-    Broken,
-    Value(u32),
-}
-
-// What is read behind the word.
-#[derive(Clone, Copy)]
-pub enum Numbers {
-    Broken,
-    Count(usize),
 }
 
 // The end of a line reads as a space: both end a field.
 fn byte_at(line: &[u8], at: usize) -> u8
     ensures { result ≡ get_or line.now at 32 }
 {
-    if at < line.len() {
-        return line[at];
-    }
-    32
+    line.get(at).copied().unwrap_or(b' ')
 }
 
+/// How many bytes stand before the first space, or on the whole line.
 pub fn word_length(line: &[u8]) -> usize
     ensures { result ≡ length (first line.now) }
 {
-    let mut n = 0;
-    while byte_at(line, n) != 32 {
-        n += 1;
-    }
-    n
+    line.iter().position(|b| *b == b' ').unwrap_or(line.len())
 }
 
-pub fn same_bytes(a: &[u8], b: &[u8]) -> bool
-    ensures { result ≡ same_bytes a.now b.now }
+#[tactic(auto, using(laws::proofs::Choose::cases), unfolding(crate::specs::Scan::word_of))]
+fn word_of(text: &str) -> Option<Word>
+    ensures { result ≡ word_of text.now }
 {
-    if a.len() != b.len() {
-        return false;
+    match text {
+        "start" => Some(Word::Start),
+        "create" => Some(Word::Create),
+        "ident" => Some(Word::Ident),
+        "delete" => Some(Word::Delete),
+        "obtain" => Some(Word::Obtain),
+        "release" => Some(Word::Release),
+        "flush" => Some(Word::Flush),
+        "tick" => Some(Word::Tick),
+        _ => None,
     }
-    let mut i = 0;
-    while i < a.len() {
-        if a[i] != b[i] {
-            return false;
-        }
-        i += 1;
-    }
-    true
 }
 
-fn word_of(word: &[u8]) -> Word
-    ensures { result ≡ word_of word.now }
-{
-    if same_bytes(word, b"start") {
-        return Word::Start;
-    }
-    if same_bytes(word, b"create") {
-        return Word::Create;
-    }
-    if same_bytes(word, b"ident") {
-        return Word::Ident;
-    }
-    if same_bytes(word, b"delete") {
-        return Word::Delete;
-    }
-    if same_bytes(word, b"obtain") {
-        return Word::Obtain;
-    }
-    if same_bytes(word, b"release") {
-        return Word::Release;
-    }
-    if same_bytes(word, b"flush") {
-        return Word::Flush;
-    }
-    if same_bytes(word, b"tick") {
-        return Word::Tick;
-    }
-    Word::Unknown
-}
-
-// A byte behind `digits` digits that spell `value`.
+// The number that a byte makes of `digits` digits that spell `value`: no digit stands behind a lone 0.
 #[tactic(auto, using(laws::proofs::Choose::cases, crate::proofs::Reading::first_digit, crate::proofs::Reading::later_digit), unfolding(crate::specs::Scan::digit_behind))]
-fn digit_behind(digits: usize, value: u32, b: u8) -> Digit
+fn digit_behind(digits: usize, value: u32, b: u8) -> Option<u32>
     ensures { result ≡ digit_behind digits value b }
 {
-    if b < 48 {
-        return Digit::Broken;
+    if !b.is_ascii_digit() || 0 < digits && value == 0 {
+        return None;
     }
-    if 57 < b {
-        return Digit::Broken;
-    }
-    if 0 < digits {
-        if value == 0 {
-            return Digit::Broken;
-        }
-    }
-    let next = value as u64 * 10 + (b - 48) as u64;
-    if 4294967295 < next {
-        return Digit::Broken;
-    }
-    Digit::Value(next as u32)
+    value.checked_mul(10)?.checked_add((b - b'0') as u32)
 }
 
-// The numbers behind the word, which ends at `from`. A bad byte ends the reading at once.
-pub fn read_numbers(line: &[u8], from: usize, numbers: &mut [u32; 128]) -> Numbers
+/// The numbers behind the word, which ends at `from`: how many, left in `numbers`, or `None` where one is no number. A bad byte ends
+/// the reading at once.
+pub fn read_numbers(line: &[u8], from: usize, numbers: &mut [u32; 128]) -> Option<usize>
     requires { (length line.now ≤ 256) × (get_or line.now from 32 ≡ 32) }
     ensures { (all_numbers (others (drop from line.now)) ≡ numbers_read result numbers.new) × (placed result ≤ length numbers.new) }
 {
@@ -141,25 +82,26 @@ pub fn read_numbers(line: &[u8], from: usize, numbers: &mut [u32; 128]) -> Numbe
     *numbers = [0u32; 128];
     let mut at = from;
     let mut count: usize = 0;
+    // The scan that leaves by a label, which carries the number of fields, is asked for in this form.
     'fields: loop {
         if line.len() <= at {
-            break 'fields Numbers::Count(count);
+            break 'fields Some(count);
         }
         at += 1;
         let begin = at;
         let mut value: u32 = 0;
         let number = loop {
             let b = byte_at(line, at);
-            if b == 32 {
+            if b == b' ' {
                 if at == begin {
-                    break 'fields Numbers::Broken;
+                    break 'fields None;
                 }
                 break value;
             }
-            match digit_behind(at - begin, value, b) {
-                Digit::Broken => break 'fields Numbers::Broken,
-                Digit::Value(v) => value = v,
-            }
+            let Some(longer) = digit_behind(at - begin, value, b) else {
+                break 'fields None;
+            };
+            value = longer;
             at += 1;
         };
         numbers[count] = number;
@@ -168,31 +110,30 @@ pub fn read_numbers(line: &[u8], from: usize, numbers: &mut [u32; 128]) -> Numbe
 }
 
 // A call of a word that takes `arity` numbers.
-fn taking(arity: usize, count: usize, call: Call) -> Line
+#[tactic(auto, using(laws::proofs::Choose::cases))]
+fn taking(arity: usize, count: usize, call: Call) -> Option<Request>
     ensures { result ≡ with_count arity count call }
 {
-    if count == arity {
-        return Line::Request { call, count: 0 };
-    }
-    Line::Bad
+    (count == arity).then_some(Request { call, count: 0 })
 }
 
-fn starting(count: usize, slots: u32) -> Line
-    ensures { result ≡ asked_by Word.Start count slots 0 0 0 0 }
+#[tactic(auto, using(laws::proofs::Choose::cases))]
+fn starting(count: usize, slots: u32) -> Option<Request>
+    ensures { result ≡ started count slots }
 {
-    if count < 1 {
-        return Line::Bad;
-    }
-    Line::Request {
+    let count = count.checked_sub(1)?;
+    Some(Request {
         call: Call::Start { slots },
-        count: count - 1,
-    }
+        count,
+    })
 }
 
-// The request of a word with `count` numbers, of which `a` to `e` are the first five.
-fn request_of(word: Word, count: usize, a: u32, b: u32, c: u32, d: u32, e: u32) -> Line
-    ensures { result ≡ asked_by word count a b c d e }
+// The request of a word with the first `count` of these numbers.
+#[tactic(auto, unfolding(crate::specs::Scan::asked_by))]
+fn request_of(word: Word, count: usize, numbers: &[u32; 128]) -> Option<Request>
+    ensures { result ≡ asked_by word count numbers.now }
 {
+    let [a, b, c, d, e, ..] = *numbers;
     match word {
         Word::Start => starting(count, a),
         Word::Create => taking(
@@ -220,86 +161,61 @@ fn request_of(word: Word, count: usize, a: u32, b: u32, c: u32, d: u32, e: u32) 
         Word::Release => taking(2, count, Call::Release { caller: a, id: b }),
         Word::Flush => taking(2, count, Call::Flush { caller: a, id: b }),
         Word::Tick => taking(0, count, Call::Tick),
-        Word::Unknown => Line::Bad,
     }
 }
 
-// Reading ends at the first byte that breaks the line. The numbers of the line are left in `numbers`.
-pub fn scan(line: &[u8], numbers: &mut [u32; 128]) -> Line
+/// What a line asks, or `None` where it is bad. Reading ends at the first byte that breaks the line. The numbers of the line are left in
+/// `numbers`.
+pub fn scan(line: &[u8], numbers: &mut [u32; 128]) -> Option<Request>
     ensures { line_of line.now ≡ scanned result numbers.new }
 {
     if 256 < line.len() {
-        return Line::Bad;
+        return None;
     }
     let n = word_length(line);
-    let word = word_of(&line[..n]);
-    if let Word::Unknown = word {
-        return Line::Bad;
-    }
-    match read_numbers(line, n, numbers) {
-        Numbers::Broken => Line::Bad,
-        Numbers::Count(count) => request_of(
-            word, count, numbers[0], numbers[1], numbers[2], numbers[3], numbers[4],
-        ),
-    }
+    let word = word_of(from_utf8(&line[..n]).ok()?)?;
+    let count = read_numbers(line, n, numbers)?;
+    request_of(word, count, numbers)
 }
 
-// A number's text in decimal with the byte that ends it: it begins at `from`.
-#[derive(Clone, Copy)]
-pub struct Text {
-    pub bytes: [u8; 11],
-    pub from: usize,
-}
-
-pub fn text_of(v: u32, end: u8) -> Text
-    ensures { (length result.bytes ≡ 11) × (result.from ≤ 10) × (drop result.from result.bytes ≡ decimal v ++ end ∷ []) }
+/// Writes `xs` at `at`, and returns where they end.
+pub fn put<T: Copy>(out: &mut [T], at: usize, xs: &[T]) -> usize
+    requires { at + length xs.now ≤ length out.old }
+    ensures { (result ≡ at + length xs.now) × (out.new ≡ spliced at xs.now out.old) }
 {
-    let mut bytes = [end; 11];
-    let mut from: usize = 10;
-    let mut rest = v;
-    while 9 < rest {
-        from -= 1;
-        bytes[from] = 48 + (rest % 10) as u8;
-        rest = rest / 10;
-    }
-    from -= 1;
-    bytes[from] = 48 + rest as u8;
-    Text { bytes, from }
+    let end = at + xs.len();
+    out[at..end].copy_from_slice(xs);
+    end
 }
 
-// Writes `text` at `at`, and returns where it ends.
-pub fn put(out: &mut [u8], at: usize, text: &[u8]) -> usize
-    requires { at + length text.now ≤ length out.old }
-    ensures { (result ≡ at + length text.now) × (out.new ≡ spliced at text.now out.old) }
+/// Writes a number in decimal at `at`, and returns where it ends.
+pub fn put_number(out: &mut [u8], at: usize, v: u32) -> usize
+    requires { at + length (decimal v) ≤ length out.old }
+    ensures { (result ≡ at + length (decimal v)) × (out.new ≡ spliced at (decimal v) out.old) }
 {
-    let mut i = 0;
-    while i < text.len() {
-        out[at + i] = text[i];
-        i += 1;
-    }
-    at + i
+    put(out, at, Buffer::new().format(v).as_bytes())
 }
 
-fn put_number(out: &mut [u8], at: usize, v: u32, end: u8) -> usize
+// A number and the byte that ends it.
+fn put_ended(out: &mut [u8], at: usize, v: u32, end: u8) -> usize
     requires { at + 11 ≤ length out.old }
     ensures { (result ≡ at + length (decimal v ++ end ∷ [])) × (out.new ≡ spliced at (decimal v ++ end ∷ []) out.old) }
 {
-    let t = text_of(v, end);
-    let bytes = t.bytes;
-    let from = t.from;
-    put(out, at, &bytes[from..])
+    let end_at = put_number(out, at, v);
+    put(out, end_at, &[end])
 }
 
-// Writes the answer line at the front of `out`, and returns its length.
+/// Writes the answer line at the front of `out`, and returns its length, at most 33 bytes.
 pub fn print_answer(out: &mut [u8], a: Answer) -> usize
     requires { 33 ≤ length out.old }
     ensures { (result ≡ length (answer_line a)) × (out.new ≡ answer_line a ++ drop result out.old) }
 {
-    let value_at = put_number(out, 0, a.status, 32);
-    let next_at = put_number(out, value_at, a.value, 32);
-    put_number(out, next_at, a.next, 10)
+    let value_at = put_ended(out, 0, a.status, b' ');
+    let next_at = put_ended(out, value_at, a.value, b' ');
+    put_ended(out, next_at, a.next, b'\n')
 }
 
+/// Writes what is said to a bad line at the front of `out`, and returns its length.
 pub fn print_bad(out: &mut [u8]) -> usize
     requires { 4 ≤ length out.old }
     ensures { (result ≡ 4) × (out.new ≡ bad_line ++ drop 4 out.old) }

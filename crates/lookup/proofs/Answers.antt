@@ -2,9 +2,11 @@
 use mathlib.Core.Path.{◌≡◌, ap, ap₂, sym, ◌∙◌}
 use mathlib.Core.Bool.{Bool, true, false}
 use mathlib.Core.List.{List}
+use mathlib.Core.Logic.{◌⊎◌, ⊎_elim}
 use Prim.Native.Nat.{ℕ, pred, ◌-◌, ◌/◌, ◌%◌, ◌≤◌, ◌<◌}
 use native.Mathlib.Omega.{arith}
 use lib.Dec.{ltb, eqb}
+use Rattle.std.specs.Prelude.{None, Some}
 use lib.ListN.{length, get_or}
 use borrow.Author.Tests.{eq-eqb, ne_eqb, le-leb, lt-leb}
 use Rattle.laws.specs.Choose.{choose, ◌and◌, isnt}
@@ -13,6 +15,7 @@ use Rattle.words.specs.Words.{word_at}
 use Rattle.rules.specs.declared.Task.{Task}
 use Rattle.rules.specs.Machine.{Slot, no_task, free_slot, task_of, slot_of, waits, names, slot_named}
 use Rattle.rules.specs.Calls.{caller_refusal}
+use Rattle.rules.specs.Found.{Finds}
 use Rattle.tables.specs.Layout.{model_of, task_at, record_at}
 use Rattle.lookup.specs.declared.looks.Look.{Look}
 use Rattle.lookup.specs.Search.{is_match}
@@ -53,6 +56,10 @@ module _ (bs : List ℕ) where
     pub not_refused : (v.answer ≡ 100 → ⊥) → 0 ≡ caller_refusal (model_of bs) caller
     not_refused h = sym (refused_by_lem ∙ if_no 14 0 (ne_eqb v.answer 100 h))
 
+pub ruleset owning = (own_of, own_none)
+
+pub ruleset refusing = (refused_above, refused_waits, not_refused)
+
 -- ---- a slot by its index, and the words of it that a search tests
 
 module _ (bs : List ℕ) (i : ℕ) (h : i < word_at bs 1) where
@@ -79,14 +86,13 @@ module _ (bs : List ℕ) (i : ℕ) (h : i < word_at bs 1) where
 -- ---- the slot that an identifier names
 
 module _ (bs : List ℕ) (id : ℕ) where
-  unnamed : names (model_of bs) id ≡ false → 0 ≡ slot_named (model_of bs) id
-  unnamed e = sym (if_no (id % 65536) 0 e)
+  unnamed : names (model_of bs) id ≡ false → Finds None (slot_named (model_of bs) id)
+  unnamed e = if_no (id % 65536) 0 e
 
-  pub unnamed_zero : id % 65536 ≡ 0 → 0 ≡ slot_named (model_of bs) id
-  unnamed_zero h = unnamed (and_first _ (lt-leb 1 (id % 65536) (omega arith)))
-
-  pub unnamed_above : word_at bs 1 < id % 65536 → 0 ≡ slot_named (model_of bs) id
-  unnamed_above h = unnamed (and_second _ (and_first _ (lt-leb (id % 65536) (length (model_of bs).slots) (rw length_slots h))))
+  pub unnamed_outside : (id % 65536 ≡ 0) ⊎ (word_at bs 1 < id % 65536) → Finds None (slot_named (model_of bs) id)
+  unnamed_outside =
+      ⊎_elim (λ (h : id % 65536 ≡ 0). unnamed (and_first _ (lt-leb 1 (id % 65536) (omega arith))))
+      (λ (h : word_at bs 1 < id % 65536). unnamed (and_second _ (and_first _ (lt-leb (id % 65536) (length (model_of bs).slots) (rw length_slots h)))))
 
   module _ (low : (id % 65536 ≡ 0) → ⊥) (high : id % 65536 ≤ word_at bs 1) where
     abbrev at : ℕ
@@ -101,18 +107,18 @@ module _ (bs : List ℕ) (id : ℕ) where
     generation_word : (slot_of (model_of bs) (id % 65536)).generation ≡ (record_at bs at).generation
     generation_word = ap (λ (k : ℕ). (get_or (model_of bs).slots k (free_slot 0)).generation) (sym at_pred) ∙ slot_generation bs at (omega arith)
 
-    pub unnamed_free : ((record_at bs at).live ≡ 1 → ⊥) → 0 ≡ slot_named (model_of bs) id
+    pub unnamed_free : ((record_at bs at).live ≡ 1 → ⊥) → Finds None (slot_named (model_of bs) id)
     unnamed_free h =
         unnamed (and_second _ (and_second _ (and_first _ (ne_eqb (slot_of (model_of bs) (id % 65536)).live 1 (λ e. h (sym live_word ∙ e))))))
 
-    pub unnamed_old : ((record_at bs at).generation ≡ id / 65536 → ⊥) → 0 ≡ slot_named (model_of bs) id
+    pub unnamed_old : ((record_at bs at).generation ≡ id / 65536 → ⊥) → Finds None (slot_named (model_of bs) id)
     unnamed_old h =
         unnamed
         (and_second _
         (and_second _
         (and_second _ (ne_eqb (slot_of (model_of bs) (id % 65536)).generation (id / 65536) (λ e. h (sym generation_word ∙ e))))))
 
-    pub named_live : (record_at bs at).live ≡ 1 → (record_at bs at).generation ≡ id / 65536 → id % 65536 ≡ slot_named (model_of bs) id
+    pub named_live : (record_at bs at).live ≡ 1 → (record_at bs at).generation ≡ id / 65536 → Finds (Some (id % 65536)) (slot_named (model_of bs) id)
     named_live l g =
         let all : names (model_of bs) id ≡ true =
         both_and (le-leb 1 (id % 65536) (omega arith))
@@ -120,4 +126,6 @@ module _ (bs : List ℕ) (id : ℕ) where
         (both_and (eq-eqb (slot_of (model_of bs) (id % 65536)).live 1 (live_word ∙ l))
         (eq-eqb (slot_of (model_of bs) (id % 65536)).generation (id / 65536) (generation_word ∙ g))))
         in
-        sym (if_yes (id % 65536) 0 all)
+        (sym (if_yes (id % 65536) 0 all), omega arith)
+
+pub ruleset naming = (unnamed_outside, unnamed_free, unnamed_old, named_live)

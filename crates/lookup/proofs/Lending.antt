@@ -3,17 +3,18 @@ use mathlib.Core.Path.{◌≡◌, refl, sym, ap, ap₂, ◌∙◌}
 use mathlib.Core.Bool.{Bool, true, false}
 use mathlib.Core.List.{List, [], ◌∷◌, ◌++◌}
 use mathlib.Core.Logic.{◌⊎◌, inl, inr, ⊎_elim}
+use Rattle.std.specs.Prelude.{min}
 use Prim.Native.Nat.{ℕ, zero, suc, pred, ◌+◌, ◌-◌, ◌%◌, ◌≤◌, ◌<◌}
 use native.Mathlib.Numerals.{add-one}
 use native.Mathlib.Omega.{arith}
 use native.Mathlib.Decide.{ℕ_discrete}
-use lib.Dec.{ltb, eqb}
+use lib.Dec.{leb, ltb}
 use lib.ListN.{length, get_or, set}
-use borrow.Author.Tests.{eqb-true, eq-eqb, ne_eqb, le-leb, lt-leb}
+use borrow.Author.Tests.{ltb-true, ltb-false, eq-eqb, ne_eqb, le-leb, lt-leb}
 use Rattle.laws.specs.Choose.{choose, ◌and◌}
 use Rattle.laws.specs.Rows.{fit, tabulate}
 use Rattle.laws.proofs.Fit.{length_tabulate, get_d_tabulate, tabulate_last, get_d_fit, set_fit_end}
-use Rattle.laws.proofs.Choose.{tested, if_yes, if_no, both_and}
+use Rattle.laws.proofs.Choose.{choose_cases, if_yes, if_no, both_and}
 use Rattle.words.specs.Words.{word_at}
 use Rattle.rules.specs.declared.Task.{Task}
 use Rattle.rules.specs.Numbers.{inherits}
@@ -48,11 +49,13 @@ module _ (bs : List ℕ) (q : ℕ) where
   unfolding lends_to
   outside e = sym (if_no _ _ (and_first _ e))
 
-  pub lends_low : q < 1 → 0 ≡ lends_to t q
-  lends_low h = outside (and_first _ (lt-leb 1 q h))
-
-  pub lends_above : word_at bs 0 < q → 0 ≡ lends_to t q
-  lends_above h = outside (and_second _ (lt-leb q (length t.tasks) (rw length_tasks h)))
+  pub lends_outside : (q < 1) ⊎ (word_at bs 0 < q) → 0 ≡ lends_to t q
+  lends_outside =
+      ⊎_elim (λ (h : q < 1). outside (and_first _ (lt-leb 1 q h)))
+      (λ (h : word_at bs 0 < q). outside (and_second _ (above h)))
+    where
+      above : word_at bs 0 < q → leb q (length t.tasks) ≡ false
+      above h = lt-leb q (length t.tasks) (rw length_tasks h)
 
   module _ (v : Task) (low : 1 ≤ q) (high : q ≤ word_at bs 0) (loaded : v ≡ task_at bs (q - 1)) where
     by : lends_to t q ≡ lends_by t q v
@@ -62,9 +65,6 @@ module _ (bs : List ℕ) (q : ℕ) where
     nothing : (is_task t q and waits v and names t v.awaited and inherits (slot_of t (slot_named t v.awaited)).attributes) ≡ false → 0 ≡ lends_to t q
     unfolding lends_by
     nothing e = sym (by ∙ if_no _ _ e)
-
-    pub lends_ready : (v.answer ≡ 100 → ⊥) → 0 ≡ lends_to t q
-    lends_ready h = nothing (and_second _ (and_first _ (ne_eqb v.answer 100 h)))
 
     pub lends_unnamed : slot_named t v.awaited ≡ 0 → 0 ≡ lends_to t q
     lends_unnamed z = nothing (and_second _ (and_second _ (and_first _ (not_named t v.awaited z))))
@@ -80,9 +80,9 @@ module _ (bs : List ℕ) (q : ℕ) where
           let there : pred n ≡ place = omega (arith, few, within, named.slot, named.low) in
           ap (λ (k : ℕ). get_or t.slots k (free_slot 0)) there ∙ slot_read bs place (omega (arith, within, there, named.low))
 
-      module _ (some : slot_named t v.awaited ≡ 0 → ⊥) where
+      module _ (some : 1 ≤ slot_named t v.awaited) where
         names_it : Named t v.awaited (slot_named t v.awaited)
-        names_it = named t v.awaited (slot_named t v.awaited) refl some
+        names_it = named t v.awaited (slot_named t v.awaited) refl (λ z. omega arith)
 
         attributes_are : (slot_of t (slot_named t v.awaited)).attributes ≡ s.attributes
         attributes_are = ap (λ (x : Slot). x.attributes) (slot_at _ names_it) ∙ sym (ap (λ (h : Head). h.attributes) read)
@@ -97,12 +97,17 @@ module _ (bs : List ℕ) (q : ℕ) where
             let lent = both_and task (both_and (eq-eqb v.answer 100 waiting) (both_and names_it.holds (eq-eqb _ 84 (attributes_are ∙ h)))) in
             sym (by ∙ if_yes _ _ lent ∙ owner_is)
 
-      pub lends_nothing : (s.attributes ≡ 84 → ⊥) → 0 ≡ lends_to t q
-      lends_nothing h =
+      -- it does not inherit, or the task does not wait
+      pub lends_nothing : (s.attributes ≡ 84 → ⊥) ⊎ (v.answer ≡ 100 → ⊥) → 0 ≡ lends_to t q
+      lends_nothing =
+          ⊎_elim (λ (h : s.attributes ≡ 84 → ⊥).
           elim (ℕ_discrete (slot_named t v.awaited) 0) [
             | yes none ↦ lends_unnamed none
-            | no some ↦ nothing (and_second _ (and_second _ (and_second _ (ne_eqb _ 84 (λ e. h (sym (attributes_are some) ∙ e))))))
-          ]
+            | no some ↦ nothing (and_second _ (and_second _ (and_second _ (ne_eqb _ 84 (λ e. h (sym (attributes_are (omega arith)) ∙ e))))))
+          ])
+          (λ (h : v.answer ≡ 100 → ⊥). nothing (and_second _ (and_first _ (ne_eqb v.answer 100 h))))
+
+pub ruleset lending = (lends_outside, lends_unnamed, lends_nothing, lends_owner)
 
 -- ---- the list of all tasks
 
@@ -116,7 +121,7 @@ unfolding tabulate
 read_none t tasks = record { filled = refl; some = inr (refl, λ r l h. absurd (omega arith)) }
 
 module _ (t : Tables) (tasks i links : ℕ) (to : List ℕ) (read : Read t tasks i links to) where
-  pub read_next : (q more : ℕ) → i < 32 → q ≡ lends_to t (i + 1) → more ≡ choose (eqb q 0) links tasks → Read t tasks (i + 1) more (set to i q)
+  pub read_next : (q more : ℕ) → i < 32 → q ≡ lends_to t (i + 1) → ((q ≡ 0) × (more ≡ links)) ⊎ (more ≡ tasks) → Read t tasks (i + 1) more (set to i q)
   read_next q more h e m = record { filled = longer; some = again }
     where
       to_next : q ≡ lends_to t (suc i)
@@ -135,17 +140,16 @@ module _ (t : Tables) (tasks i links : ℕ) (to : List ℕ) (read : Read t tasks
 
       again : (more ≡ tasks) ⊎ ((more ≡ 0) × ((r : ℕ) → 1 ≤ r → r ≤ i + 1 → lends_to t r ≡ 0))
       again =
-          ⊎_elim (λ (z : eqb q 0 ≡ true).
-          let same : more ≡ links = m ∙ if_yes links tasks z in
-          ⊎_elim (λ (a : links ≡ tasks). inl (same ∙ a))
+          ⊎_elim (λ (z : (q ≡ 0) × (more ≡ links)).
+          ⊎_elim (λ (a : links ≡ tasks). inl (z.1 ∙ a))
           (λ n. inr (
-            same ∙ n.0,
+            z.1 ∙ n.0,
             λ r l h. elim (ℕ_discrete r (i + 1)) [
-              | yes here ↦ ap (lends_to t) here ∙ sym e ∙ eqb-true q 0 z
+              | yes here ↦ ap (lends_to t) here ∙ sym e ∙ z.0
               | no other ↦ n.1 r l (omega arith)
             ],
           )) read.some)
-          (λ (x : eqb q 0 ≡ false). inl (m ∙ if_no links tasks x)) (tested (eqb q 0))
+          (λ (a : more ≡ tasks). inl a) m
 
   -- all are read
   pub read_all : i ≡ tasks → tasks ≡ length t.tasks → LendersOf t (record { links = links; to = to })
@@ -166,6 +170,11 @@ lending_at t i h few =
     ∙ get_d_tabulate (length t.tasks) (λ k. lends_to t (suc k)) i 0 h
 
 -- ---- the working priority, one task after another
+
+min_choice : (a b : ℕ) → min a b ≡ choose (ltb b a) b a
+min_choice a b =
+    choose_cases (λ (x : ℕ). min a b ≡ x) (ltb b a) b a
+    (λ e. let h : b < a = ltb-true b a e in omega arith) (λ e. let h : a ≤ b = ltb-false b a e in omega arith)
 
 module _ (t : Tables) (q links own : ℕ) (is : own ≡ (task_of t q).priority) where
   pub working_own : links ≡ 0 → own ≡ working_with t links q
@@ -201,10 +210,11 @@ module _ (t : Tables) (q links own : ℕ) (is : own ≡ (task_of t q).priority) 
         sym (ap least_to (add-one i) ∙ if_no _ _ (if_no _ _ (and_second _ (ne_eqb _ q (λ e. n (listed ∙ e))))))
 
     pub least_taken : (q ≡ 0 → ⊥) → get_or to i 0 ≡ q → (lent least : ℕ) → lent ≡ working_with t (links - 1) (i + 1) → least ≡ least_to i
-        → choose (ltb lent least) lent least ≡ least_to (i + 1)
+        → min least lent ≡ least_to (i + 1)
     unfolding least_of
     least_taken some e lent least l b =
-        ap₂ (λ (x y : ℕ). choose (ltb x y) x y) (l ∙ ap (working_with t (links - 1)) (add-one i)) b
+        min_choice least lent
+        ∙ ap₂ (λ (x y : ℕ). choose (ltb x y) x y) (l ∙ ap (working_with t (links - 1)) (add-one i)) b
         ∙ sym (ap least_to (add-one i) ∙ ap (λ (c : Bool). choose (c and ltb (working_with t (links - 1) (suc i)) (least_to i))
         (working_with t (links - 1) (suc i)) (least_to i)) passes ∙ ap (λ (c : Bool). choose c (working_with t (links - 1) (suc i)) (least_to i)) (if_yes _ _ refl))
       where

@@ -8,126 +8,111 @@ ghost use Rattle.std.specs.Prelude.{◌≡◌, pred, ◌≤◌, ltb, eqb};
 ghost use Rattle.laws.specs.Choose.{◌and◌, isnt};
 ghost use Rattle.rules.specs.Machine.{next, slot_named};
 ghost use Rattle.rules.specs.Calls.{task_only, any_caller, caller_refusal, open_slot};
-ghost use Rattle.tables.specs.Layout.{model_of};
-ghost use Rattle.tables.specs.Sizes.{Sized};
+ghost use Rattle.rules.specs.Status.{status};
+ghost use Rattle.rules.specs.Found.{Finds};
+ghost use Rattle.tables.specs.View.{seen};
 
-use rules::Best;
+use rules::{Best, Refusal};
+use tables::View;
 
-pub fn next_task(m: &[u8]) -> u32
-    requires { Sized m.now }
-    ensures { result ≡ next (model_of m.now) }
+/// The next task, 0 for none: it goes into an answer as it is, and there the C interface has 0.
+pub fn next_task(v: View<'_>) -> u32
+    ensures { result ≡ next (seen v.entry) }
 {
-    let tasks = tables::task_count(m) as usize;
-    let ready = tables::ready_count(m) as usize;
-    let lenders = working::load_lenders(m);
+    let tasks = v.task_count() as usize;
+    let lenders = working::load_lenders(v);
+    // 0 for none, as the rules' `most_urgent` and the answers in C have it
     let mut best = Best {
         task: 0,
         priority: rules::ABOVE_ALL,
     };
-    let mut k = 0;
-    while k < ready {
-        let q = tables::ready_entry(m, k);
-        let p = working::urgency(m, &lenders.to, q, lenders.links);
+    for k in 0..v.ready_count() {
+        let q = v.ready_entry(k as usize);
+        let p = working::urgency(v, &lenders.to, q, lenders.links);
         best = rules::better(best, tasks, q, p);
-        k += 1;
     }
     best.task
 }
 
-// Where task q stands in the list of tasks, which is counted from 0.
+/// Where task q stands in the list of tasks, which is counted from 0.
 pub fn index_of(q: u32) -> u32
     ensures { result ≡ pred q }
 {
-    if q == 0 {
-        return 0;
-    }
-    q - 1
+    q.saturating_sub(1)
 }
 
-// Why a task may not call: 4 above N, 14 while it waits, else 0.
-fn caller_refusal(m: &[u8], caller: u32) -> u32
-    requires { Sized m.now × (1 ≤ caller) }
-    ensures { result ≡ caller_refusal (model_of m.now) caller }
+// One of the tasks, and not waiting.
+#[tactic(auto, using(crate::proofs::Answers::refusing))]
+fn calling_task(v: View<'_>, caller: u32) -> Result<(), Refusal>
+    requires { 1 ≤ caller }
+    ensures { status result ≡ caller_refusal (seen v.entry) caller }
 {
-    let n = tables::task_count(m);
-    if n < caller {
-        return rules::INVALID_ID;
+    if v.task_count() < caller {
+        return Err(Refusal::InvalidId);
     }
-    let v = tables::load_task(m, (caller - 1) as usize);
-    if v.answer == rules::WAITING {
-        return rules::INCORRECT_STATE;
+    let task = v.task((caller - 1) as usize);
+    if task.answer == rules::WAITING {
+        return Err(Refusal::IncorrectState);
     }
-    0
+    Ok(())
 }
 
-// Why a caller may not create, delete or obtain, or 0.
-pub fn task_only(m: &[u8], caller: u32) -> u32
-    requires { Sized m.now }
-    ensures { result ≡ task_only (model_of m.now) caller 0 }
+/// Whether a caller may create, delete or obtain.
+#[tactic(auto, using(laws::proofs::Choose::cases, crate::proofs::CallerAndSlot::task_only_task))]
+pub fn task_only(v: View<'_>, caller: u32) -> Result<(), Refusal>
+    ensures { status result ≡ task_only (seen v.entry) caller 0 }
 {
     if caller == 0 {
-        return rules::CALLED_FROM_ISR;
+        return Err(Refusal::CalledFromIsr);
     }
-    caller_refusal(m, caller)
+    calling_task(v, caller)
 }
 
-// Why a caller may not release or flush, or 0.
-pub fn any_caller(m: &[u8], caller: u32) -> u32
-    requires { Sized m.now }
-    ensures { result ≡ any_caller (model_of m.now) caller 0 }
+/// Whether a caller may release or flush.
+#[tactic(auto, using(laws::proofs::Choose::cases, crate::proofs::CallerAndSlot::any_caller_task))]
+pub fn any_caller(v: View<'_>, caller: u32) -> Result<(), Refusal>
+    ensures { status result ≡ any_caller (seen v.entry) caller 0 }
 {
     if caller == 0 {
-        return 0;
+        return Ok(());
     }
-    caller_refusal(m, caller)
+    calling_task(v, caller)
 }
 
 // Whether a slot with these words is free and can be used again.
+#[tactic(auto, using(laws::proofs::Choose::cases))]
 fn is_open(live: u32, generation: u32) -> bool
     ensures { result ≡ (isnt (eqb live 1) and ltb generation 65535) }
 {
-    if live == 1 {
-        return false;
-    }
-    generation < rules::MAX_GENERATION
+    live != 1 && generation < rules::MAX_GENERATION
 }
 
-// The lowest free slot that can be used again, or 0.
-pub fn open_slot(m: &[u8]) -> u32
-    requires { Sized m.now }
-    ensures { result ≡ open_slot (model_of m.now) }
+/// The lowest free slot that can be used again.
+pub fn open_slot(v: View<'_>) -> Option<u32>
+    ensures { Finds result (open_slot (seen v.entry)) }
 {
-    let s = tables::slot_count(m);
-    let mut i: u32 = 0;
-    while i < s {
+    for i in 0..v.slot_count() {
         let at = i as usize;
-        if is_open(tables::slot_live(m, at), tables::slot_generation(m, at)) {
-            return i + 1;
+        if is_open(v.slot_live(at), v.slot_generation(at)) {
+            return Some(i + 1);
         }
-        i += 1;
     }
-    0
+    None
 }
 
-// The slot of the live semaphore that an identifier names, or 0.
-pub fn slot_named(m: &[u8], id: u32) -> u32
-    requires { Sized m.now }
-    ensures { result ≡ slot_named (model_of m.now) id }
+/// The slot of the live semaphore that an identifier names.
+#[tactic(auto, using(crate::proofs::Answers::naming))]
+pub fn slot_named(v: View<'_>, id: u32) -> Option<u32>
+    ensures { Finds result (slot_named (seen v.entry) id) }
 {
-    let s = tables::slot_count(m);
     let n = id % rules::GENERATION_UNIT;
-    if n == 0 {
-        return 0;
-    }
-    if s < n {
-        return 0;
+    if n == 0 || v.slot_count() < n {
+        return None;
     }
     let at = (n - 1) as usize;
-    if tables::slot_live(m, at) != 1 {
-        return 0;
+    if v.slot_live(at) == 1 && v.slot_generation(at) == id / rules::GENERATION_UNIT {
+        Some(n)
+    } else {
+        None
     }
-    if tables::slot_generation(m, at) != id / rules::GENERATION_UNIT {
-        return 0;
-    }
-    n
 }

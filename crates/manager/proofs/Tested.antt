@@ -1,5 +1,5 @@
 -- What the test for 25 says of lent bytes, and what it leaves of an entry point: its step on agreeing tables, or nothing.
-use mathlib.Core.Path.{◌≡◌, refl, sym, subst, ◌∙◌}
+use mathlib.Core.Path.{◌≡◌, refl, sym, subst, subst₂, ◌∙◌}
 use mathlib.Core.Bool.{true, false}
 use mathlib.Core.List.{List}
 use Prim.Native.Nat.{ℕ}
@@ -12,7 +12,9 @@ use Rattle.rules.proofs.Invariants.Agreeing.{agrees_true, true_agrees}
 use Rattle.tables.specs.Layout.{model_of, is_laid}
 use Rattle.tables.proofs.LayoutTest.{laid_model_of, is_laid_laid}
 use Rattle.agreement.specs.Bytes.{agrees_bytes}
+use Rattle.calls.specs.declared.lent.Tables.{Tables}
 use Rattle.calls.specs.Agreeing.{Agreeing}
+use Rattle.calls.specs.Tables.{Performs}
 use Rattle.calls.proofs.Agreeing.{agrees_holds}
 use Rattle.manager.specs.Entry.{Replied, reply, no_next, reply_to, looked_in}
 
@@ -38,6 +40,12 @@ module _ (bs : List ℕ) (call : Call) (priorities : List ℕ) {r : Answer} wher
   unfolding reply_to
   left_alone e n = subst (Replied r bs) (sym (if_no _ _ e)) (record { answer = n; bytes = refl })
 
+  -- lent tables that a call was made on, and given back
+  pub entered : {old new : Tables} {after : List ℕ} → agrees_bytes bs ≡ true → old.bytes.now ≡ bs → new.bytes.now ≡ after → Performs old new r call priorities
+      → Replied r after (reply_to bs call priorities)
+  entered {old} {new} {after} e lent back p =
+      replied e (subst₂ (λ (x y : List ℕ). Replied r y (reply (perform (model_of x) call priorities))) lent back p.replied)
+
 module _ (bs : List ℕ) (name : ℕ) where
   pub looked_replied : agrees_bytes bs ≡ true → {n : ℕ} → n ≡ looked (model_of bs) name → n ≡ looked_in bs name
   unfolding looked_in
@@ -46,3 +54,5 @@ module _ (bs : List ℕ) (name : ℕ) where
   pub looked_none : agrees_bytes bs ≡ false → 0 ≡ looked_in bs name
   unfolding looked_in
   looked_none e = sym (if_no _ _ e)
+
+pub ruleset testing = (replied, left_alone, looked_replied, looked_none)

@@ -5,6 +5,7 @@ ghost use Rattle.std.specs.Prelude.{◌≡◌, []};
 ghost use Rattle.rules.specs.declared.Call.TheVariants.{Start, Create, Ident, Delete, Obtain, Release, Flush, Tick};
 ghost use Rattle.manager.specs.Entry.{Replied, no_next, reply_to, looked_in, task_reply};
 
+use calls::Tables;
 use calls::ident::Searched;
 use rules::{Answer, Call, Wait};
 
@@ -20,13 +21,15 @@ pub fn internal_error() -> Answer
 }
 
 // A call as an enum, with the priorities that a start takes beside it.
+#[tactic(auto, using(crate::proofs::Tested::testing))]
 pub fn call(m: &mut [u8], c: Call, priorities: &[u32]) -> Answer
     ensures { Replied result m.new (reply_to m.old c priorities.now) }
 {
     if !agreement::is_agreeing(m) {
         return internal_error();
     }
-    calls::perform(m, c, priorities)
+    let mut t = Tables::new(m);
+    t.perform(c, priorities)
 }
 
 pub fn start(m: &mut [u8], slots: u32, priorities: &[u32]) -> Answer
@@ -58,11 +61,11 @@ pub fn create(
 pub fn ident(m: &[u8], name: u32) -> Answer
     ensures { Replied result m.now (reply_to m.now (Ident name) []) }
 {
-    let r = ident_looked(m, name);
-    r.answer
+    ident_looked(m, name).answer
 }
 
 // And how many slots the search looked at.
+#[tactic(auto, using(crate::proofs::Tested::testing), unfolding(rules::specs::Calls::perform))]
 pub fn ident_looked(m: &[u8], name: u32) -> Searched
     ensures replied { Replied result.answer m.now (reply_to m.now (Ident name) []) }
     ensures looked { result.looked ≡ looked_in m.now name }
@@ -100,16 +103,19 @@ pub fn flush(m: &mut [u8], caller: u32, id: u32) -> Answer
     call(m, Call::Flush { caller, id }, &[])
 }
 
+#[tactic(auto, using(crate::proofs::Tested::testing))]
 pub fn tick(m: &mut [u8]) -> Answer
     ensures { Replied result m.new (reply_to m.old Tick []) }
 {
     if !agreement::is_agreeing(m) {
         return internal_error();
     }
-    calls::tick::tick(m)
+    let mut t = Tables::new(m);
+    t.tick()
 }
 
 // The latest answer of a task, 100 while it waits: how a woken task learns how its wait ended.
+#[tactic(auto, using(crate::proofs::Tested::testing, laws::proofs::Choose::cases), unfolding(crate::specs::Entry::task_reply))]
 pub fn task(m: &[u8], q: u32) -> Answer
     ensures { result ≡ task_reply m.now q }
 {

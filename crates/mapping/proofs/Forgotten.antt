@@ -5,7 +5,6 @@ use Prim.Native.Nat.{ℕ, ◌+◌, ◌<◌}
 use native.Mathlib.Numerals.{add-one}
 use lib.Dec.{eqb}
 use lib.ListN.{length, get_or, set, length-map, get_or-map}
-use lib.Seq.{set-get_or}
 use Rattle.laws.specs.Choose.{choose}
 use Rattle.laws.proofs.Choose.{if_eq, if_ne, choose_same}
 use Rattle.laws.proofs.Mapped.{mapped, length_mapped, mapped_at, mapped_next, mapped_all}
@@ -45,10 +44,12 @@ module _ (id : ℕ) where
       pub forgets_it : {after : List ℕ} → after ≡ set now k 0 → get_or now k 0 ≡ id → Forgets list after (k + 1)
       forgets_it s e = stored (s ∙ ap (λ (x : ℕ). set now k x) (sym (if_eq (get_or list k 0) id 0 _ (sym here ∙ e))))
 
-      pub forgets_not : {after : List ℕ} → after ≡ now → (get_or now k 0 ≡ id → ⊥) → Forgets list after (k + 1)
+      pub forgets_not : {after : List ℕ} → after ≡ set now k (get_or now k 0) → (get_or now k 0 ≡ id → ⊥) → Forgets list after (k + 1)
       forgets_not s n =
           let same : kept (get_or list k 0) ≡ get_or now k 0 = if_ne (get_or list k 0) id 0 _ (λ e. n (here ∙ e)) ∙ sym here in
-          stored (s ∙ sym (ap (λ (x : ℕ). set now k x) same ∙ set-get_or now k 0))
+          stored (s ∙ sym (ap (λ (x : ℕ). set now k x) same))
+
+pub ruleset forgets = (forgets_none, forgets_all, forgets_it, forgets_not)
 
 -- ---- what it leaves
 

@@ -1,4 +1,4 @@
 pub mod Tests
 pub mod Forgotten
 pub mod Agreeing
-pub mod Single
+pub mod Listed

@@ -1,16 +1,19 @@
 -- What is handed to the writer: the whole report of what was read, which is what the program prints for some text.
-use Rattle.std.proofs.Common.{◌≡◌, ℕ, ◌+◌, ◌-◌, ◌≤◌, List, ◌++◌, Result, Ok, Err, IfOk, Some, None, inl, inr, refl, sym, ap, subst, ◌∙◌, length, take, drop, replicate, arith, length-append, length-drop, length-take-le, take_at, take-add, take_all}
-use Rattle.std.specs.Prelude.{IfSome, OnErr}
+use Rattle.std.proofs.Common.{◌≡◌, ℕ, ◌≤◌, List, ◌++◌, Result, Ok, Err, IfOk, Some, None, inl, inr, refl, sym, ap, subst, ◌∙◌, length, take, drop, replicate, arith, length-append, length-take-le, take_at}
+use Rattle.std.specs.Prelude.{[], IfSome, MatchResult, is_ok}
 use Rattle.std.proofs.Math.ListN.{length-replicate}
 use Rattle.std.specs.declared.option.Option.{Option}
 use Rattle.std.specs.Io.KnownBytes.{Consumes, Appends}
-use Rattle.std.proofs.KnownBytes.{Appends-trans, Consumes-whole}
+use Rattle.std.proofs.KnownBytes.{Consumes-whole}
 use Rattle.report.specs.Report.{Report, report_text, Reported}
 use Rattle.text.specs.Reading.{Room, Outcome, Reading, read_text}
 use Rattle.text.specs.Reading.Outcome.{Says, Fault}
 use Rattle.text.specs.Feeding.{Lent, room_of}
 use Rattle.mast_sections.specs.Taken.{SaidBy, SaidByAll}
-use Rattle.mast_sections.specs.Program.{room, printed, printed_of, program, HasRoom, Shows, Prints, Writes, Handing}
+use Rattle.playing.specs.Streams.{WritesAll}
+use Rattle.mast_sections.specs.Program.{room, printed, printed_of, program, HasRoom, Shows, Prints, Handing, Leaving, Answers, Printed}
+use Rattle.mast_sections.specs.declared.RunError.{RunError}
+use Rattle.mast_sections.specs.declared.RunError.TheVariants.{Unread, Unended, Unwritten}
 
 -- ---- a report at the front of the output
 
@@ -70,21 +73,8 @@ module _ (l : Lent) (h : HasRoom l) where
 
 -- ---- all of some bytes, or a front of them
 
-pub on_err : {T E P : Type 0} (r : Result T E) → P → OnErr r P
-on_err (Ok x) p = tt
-on_err (Err e) p = p
-
--- `&xs[n..]`
-pub rest_is : (xs : List ℕ) (n : ℕ) → take (length xs - n) (drop n xs) ≡ drop n xs
-rest_is xs n = take_all (length xs - n) (drop n xs) (omega (arith, length-drop n xs))
-
-pub written_more : (a b c : Option (List ℕ)) (xs : List ℕ) (done more : ℕ) → Appends a b (take done xs) → Appends b c (take more (take (length xs - done) (drop done xs)))
-    → Appends a c (take (done + more) xs)
-written_more a b c xs done more first second =
-    subst (Appends a c) (ap (λ (l : List ℕ). take done xs ++ take more l) (rest_is xs done) ∙ sym (take-add done more xs)) (Appends-trans a b c _ _ first second)
-
-pub writes_as : {T E : Type 0} (r : Result T E) (w w' : Option (List ℕ)) {xs ys : List ℕ} → xs ≡ ys → Writes r w w' xs → Writes r w w' ys
-writes_as r w w' e h = subst (Writes r w w') e h
+pub writes_as : {T E : Type 0} (r : Result T E) (w w' : Option (List ℕ)) {xs ys : List ℕ} → xs ≡ ys → WritesAll r w w' xs → WritesAll r w w' ys
+writes_as r w w' e h = subst (WritesAll r w w') e h
 
 -- ---- what there was to read
 
@@ -118,3 +108,30 @@ module _ (u u' w w' : Option (List ℕ)) (n : ℕ) (h : Handing n u u' w w') whe
         | inl end ↦ Consumes-whole u u' h.said.said.text IsPrinted h.said.read end (prints_as h.said.said.text h.said.said.says)
         | inr rest ↦ of_front u u' h.said.said.text IsPrinted h.said.read (λ more. prints_as (h.said.said.text ++ more) (rest more))
       ]
+
+-- what is printed of a known text follows from what is written of what there was to read
+module _ (u u' w w' : Option (List ℕ)) where
+  pub printed_of_known : (r : Result ℕ RunError) → Answers r u u' w w' → IfSome u (λ text. Printed r text w w')
+  printed_of_known (Ok n) h = printed_known u u' w w' n h
+  printed_of_known (Err (Unread e)) h = left u h
+    where
+      left : (x : Option (List ℕ)) → Leaving u u' w w' → IfSome x (λ text. Appends w w' [])
+      left None h = tt
+      left (Some text) h = h.none
+  printed_of_known (Err Unended) h = left u h
+    where
+      left : (x : Option (List ℕ)) → Leaving u u' w w' → IfSome x (λ text. Appends w w' [])
+      left None h = tt
+      left (Some text) h = h.none
+  printed_of_known (Err (Unwritten e)) h = broken u
+    where
+      broken : (x : Option (List ℕ)) → IfSome x (λ text. Unit {0})
+      broken None = tt
+      broken (Some text) = tt
+
+-- an error told otherwise leaves what was handed on
+pub if_ok_same : {T E D : Type 0} (P : T → Type 0) (r : Result T E) (r' : Result T D) (Q : E → Type 0) → MatchResult r (λ x. r' ≡ Ok x) Q
+    → is_ok r' ≡ is_ok r → IfOk r P → IfOk r' P
+if_ok_same P (Ok x) r' Q e v p = subst (λ (z : Result _ _). IfOk z P) (sym e) p
+if_ok_same P (Err e) (Ok y) Q q v p = cc
+if_ok_same P (Err e) (Err d) Q q v p = tt

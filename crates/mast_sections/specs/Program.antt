@@ -1,5 +1,5 @@
 -- The program that runs guarded sections from a text: what it prints.
-use Rattle.std.specs.Prelude.{◌≡◌, List, [], ℕ, Option, Result, OnOk, OnErr, length, take, replicate}
+use Rattle.std.specs.Prelude.{◌≡◌, List, [], ℕ, Option, Result, Ok, Err, length, take, replicate}
 use Rattle.std.specs.Io.KnownBytes.{Appends}
 use Rattle.tables.specs.Layout.{tables_length}
 use Rattle.runner.specs.Reply.{run_reply}
@@ -8,8 +8,9 @@ use Rattle.outcome.specs.Outcome.{report_after}
 use Rattle.text.specs.Reading.{Reading, Room, Outcome, read_text}
 use Rattle.text.specs.Reading.Outcome.{Says, Fault}
 use Rattle.text.specs.Feeding.{Lent, Kept}
-use Rattle.mast_sections.specs.declared.Ended.{Ended}
-use Rattle.mast_sections.specs.declared.Ended.TheVariants.{Handed, Unread, Unended}
+use Rattle.playing.specs.Streams.{AppendsFront}
+use Rattle.mast_sections.specs.declared.RunError.{RunError}
+use Rattle.mast_sections.specs.declared.RunError.TheVariants.{Unread, Unended, Unwritten}
 use Rattle.mast_sections.specs.Taken.{ReadSoFar, SaidByAll}
 
 -- 1024 cells, 8192 lines of scripts, sections and steps at four numbers each, and 655360 numbers of events
@@ -49,21 +50,7 @@ pub record Prints (n : ℕ) : Type 0 where
   pub text : List ℕ
   pub all : n ≡ length (program text)
 
--- unless the text could not be read, or had no end
-abbrev pub Ran : Ended → Type 0
-Ran (Handed n) = Prints n
-Ran (Unread e) = Unit {0}
-Ran Unended = Unit {0}
-
 -- ---- to a writer, from a reader
-
--- what is written grows by a front of these bytes, and by nothing else
-abbrev pub AppendsFront : (written written' : Option (List ℕ)) → List ℕ → Type 0
-AppendsFront written written' said = (n : ℕ) × Appends written written' (take n said)
-
--- all that is said is written, once; where writing fails a front of it
-abbrev pub Writes : {T E : Type 0} → Result T E → (written written' : Option (List ℕ)) → List ℕ → Type 0
-Writes r written written' said = OnOk r (Appends written written' said) × OnErr r (AppendsFront written written' said)
 
 -- what the program prints of what there was to read is written, once
 pub record Handing (n : ℕ) (unread unread' written written' : Option (List ℕ)) : Type 0 where
@@ -84,13 +71,15 @@ pub record Leaving (unread unread' written written' : Option (List ℕ)) : Type 
   pub read : ReadSoFar room kept unread unread'
   pub none : Appends written written' []
 
-abbrev pub Answers : Ended → (unread unread' written written' : Option (List ℕ)) → Type 0
-Answers (Handed n) unread unread' written written' = Handing n unread unread' written written'
-Answers (Unread e) unread unread' written written' = Leaving unread unread' written written'
-Answers Unended unread unread' written written' = Leaving unread unread' written written'
+abbrev pub Answers : Result ℕ RunError → (unread unread' written written' : Option (List ℕ)) → Type 0
+Answers (Ok n) unread unread' written written' = Handing n unread unread' written written'
+Answers (Err (Unread e)) unread unread' written written' = Leaving unread unread' written written'
+Answers (Err Unended) unread unread' written written' = Leaving unread unread' written written'
+Answers (Err (Unwritten e)) unread unread' written written' = Failing unread unread' written written'
 
--- of a known text: all that the program prints of it, once, or nothing
-abbrev pub Printed : Ended → List ℕ → (written written' : Option (List ℕ)) → Type 0
-Printed (Handed n) text written written' = (n ≡ length (program text)) × Appends written written' (program text)
-Printed (Unread e) text written written' = Appends written written' []
-Printed Unended text written written' = Appends written written' []
+-- of a known text: all that the program prints of it, once, or nothing; what is written where writing fails `Answers` says
+abbrev pub Printed : Result ℕ RunError → List ℕ → (written written' : Option (List ℕ)) → Type 0
+Printed (Ok n) text written written' = (n ≡ length (program text)) × Appends written written' (program text)
+Printed (Err (Unread e)) text written written' = Appends written written' []
+Printed (Err Unended) text written written' = Appends written written' []
+Printed (Err (Unwritten e)) text written written' = Unit {0}

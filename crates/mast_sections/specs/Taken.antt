@@ -1,61 +1,15 @@
 -- What the program does with what it reads: the bytes are fed in order and once, and what is read at the end is what some text says, or its first fault.
-use Rattle.std.specs.Prelude.{◌≡◌, List, [], ◌++◌, ℕ, zero, suc, min, ◌≤◌, ◌⊎◌, Option, Result, Ok, Err, length, take, replicate}
+use Rattle.std.specs.Prelude.{◌≡◌, List, ◌++◌, ◌⊎◌, ℕ, Option, Result, Ok, Err, length, replicate}
 use Rattle.std.specs.Io.KnownBytes.{Consumes, IsAtEnd}
-use Rattle.std.specs.declared.io.Error.{Error}
 use Rattle.rules.specs.Machine.{unstarted}
 use Rattle.tables.specs.Layout.{laid}
-use Rattle.text.specs.declared.feeding.Fed.{Fed as FedTo}
-use Rattle.text.specs.declared.feeding.Fed.TheVariants.{Keeps as KeepsTo, Faults as FaultsAt}
+use Rattle.text.specs.declared.At.{At}
 use Rattle.text.specs.Reading.{Room, Outcome, outset, read_text}
 use Rattle.text.specs.Reading.Outcome.{Says, Fault}
-use Rattle.text.specs.Feeding.{Lent, Kept, keeping, reading_of, kept_of, Fed, Feeds, take_bytes, at_end, Inside, Ready}
+use Rattle.text.specs.Feeding.{fault_of, Lent, Kept, keeping, reading_of, kept_of, take_bytes, Inside, Ready}
 use Rattle.text.specs.Feeding.Fed.{Keeps}
-use Rattle.mast_sections.specs.declared.reading.Heard.{Heard}
-use Rattle.mast_sections.specs.declared.reading.Heard.TheVariants.{Bytes, End, Failed}
-use Rattle.mast_sections.specs.declared.reading.Taken.{Taken}
-use Rattle.mast_sections.specs.declared.reading.Taken.TheVariants.{More, Read, Wrong, Unread}
-
--- what a read answers: that it failed, the end, or how many bytes it gave, of a buffer that holds so many
-abbrev pub heard_of : Result ℕ Error → ℕ → Heard
-heard_of (Err e) most = Failed e
-heard_of (Ok zero) most = End
-heard_of (Ok (suc k)) most = Bytes (min (suc k) most)
-
--- a read gives no more than the buffer holds
-abbrev pub Within : Heard → List ℕ → Type 0
-Within (Bytes n) input = n ≤ length input
-Within End input = Unit {0}
-Within (Failed e) input = Unit {0}
-
--- the bytes that a read gave are the next of what there was to read; it gives none at the end alone, if the buffer holds any
-abbrev pub Hears : Heard → (unread unread' : Option (List ℕ)) → List ℕ → Type 0
-Hears (Bytes n) unread unread' input = Consumes unread unread' (take n input)
-Hears End unread unread' input = Consumes unread unread' [] × (1 ≤ length input → IsAtEnd unread')
-Hears (Failed e) unread unread' input = Consumes unread unread' []
-
--- ---- what a read gave, fed
-
--- some bytes are fed: more is to come
-abbrev pub more_of : FedTo → Taken
-more_of (KeepsTo p) = More p
-more_of (FaultsAt line fault) = Wrong line fault
-
--- the end is: all is read
-abbrev pub last_of : FedTo → Taken
-last_of (KeepsTo p) = Read p.at
-last_of (FaultsAt line fault) = Wrong line fault
-
--- what was fed to what is lent, and how that is told
-pub record Tells (how : FedTo → Taken) (what : Fed) (r : Taken) (line : List ℕ) (l : Lent) : Type 0 where
-  pub fed : FedTo
-  pub told : r ≡ how fed
-  pub feeds : Feeds what fed line l
-
--- all the bytes that were read are fed, or the end is; where reading fails nothing is done
-abbrev pub Does : Taken → Heard → Room → Kept → (input line : List ℕ) → Lent → Type 0
-Does r (Bytes n) room k input line l = Tells more_of (take_bytes room k (take n input)) r line l
-Does r End room k input line l = Tells last_of (at_end room k) r line l
-Does r (Failed e) room k input line l = r ≡ Unread e
+use Rattle.mast_sections.specs.declared.reading.TextError.{TextError}
+use Rattle.mast_sections.specs.declared.reading.TextError.TheVariants.{Faulty, Unread, Unended}
 
 -- ---- from the outset
 
@@ -78,12 +32,12 @@ pub record SaidBy (room : Room) (what : Outcome) : Type 0 where
   pub text : List ℕ
   pub says : read_text room text ≡ what
 
--- after a read: more is to come; or all is read, and it is what a text says; or it is a text's first fault; or it could not be read
-abbrev pub Takes : Room → Taken → List ℕ → Lent → Type 0
-Takes room (More p) line l = Ready p line l × Reached room (kept_of p line l)
-Takes room (Read at) line l = Inside at l × SaidBy room (Says (reading_of at l))
-Takes room (Wrong n fault) line l = SaidBy room (Fault n fault)
-Takes room (Unread e) line l = Unit {0}
+-- all is read, and it is what a text says; or it is a text's first fault; or it could not be read; or it has no end, and this is kept
+abbrev pub Takes : Room → Result At TextError → List ℕ → Lent → Type 0
+Takes room (Ok at) line l = Inside at l × SaidBy room (Says (reading_of at l))
+Takes room (Err (Faulty f)) line l = SaidBy room (Fault f.line (fault_of f.fault))
+Takes room (Err (Unread e)) line l = Unit {0}
+Takes room (Err (Unended p)) line l = Ready p line l × Reached room (kept_of p line l)
 
 -- ---- the text is what was read
 
@@ -98,13 +52,9 @@ pub record SaidByAll (room : Room) (what : Outcome) (unread unread' : Option (Li
   pub read : Consumes unread unread' said.text
   pub whole : IsAtEnd unread' ⊎ ((rest : List ℕ) → read_text room (said.text ++ rest) ≡ what)
 
--- after reads: what is kept, what all of it says, its first fault, or what was kept before the read that failed
-abbrev pub TakesFrom : Room → Taken → (unread unread' : Option (List ℕ)) → List ℕ → Lent → Type 0
-TakesFrom room (More p) unread unread' line l = ReadSoFar room (kept_of p line l) unread unread'
-TakesFrom room (Read at) unread unread' line l = SaidByAll room (Says (reading_of at l)) unread unread'
-TakesFrom room (Wrong n fault) unread unread' line l = SaidByAll room (Fault n fault) unread unread'
-TakesFrom room (Unread e) unread unread' line l = (k : Kept) × ReadSoFar room k unread unread'
-
--- a read goes on behind what was read before it
-abbrev pub GoesOn : Room → Kept → Taken → (unread unread' : Option (List ℕ)) → List ℕ → Lent → Type 0
-GoesOn room k r unread unread' line l = (first : Option (List ℕ)) → ReadSoFar room k first unread → TakesFrom room r first unread' line l
+-- after reads: what all of it says, its first fault, what was kept before the read that failed, or what is kept
+abbrev pub TakesFrom : Room → Result At TextError → (unread unread' : Option (List ℕ)) → List ℕ → Lent → Type 0
+TakesFrom room (Ok at) unread unread' line l = SaidByAll room (Says (reading_of at l)) unread unread'
+TakesFrom room (Err (Faulty f)) unread unread' line l = SaidByAll room (Fault f.line (fault_of f.fault)) unread unread'
+TakesFrom room (Err (Unread e)) unread unread' line l = (k : Kept) × ReadSoFar room k unread unread'
+TakesFrom room (Err (Unended p)) unread unread' line l = ReadSoFar room (kept_of p line l) unread unread'

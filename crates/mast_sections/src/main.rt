@@ -5,85 +5,35 @@
 
 mod reading;
 mod showing;
+mod telling;
 
-ghost use Rattle.std.specs.Prelude.{◌≤◌, length, IfOk, IfSome, OnErr};
+ghost use Rattle.std.specs.Prelude.{◌≤◌, length, IfOk, IfSome};
 ghost use Rattle.text.specs.Feeding.{lent};
 ghost use Rattle.mast_sections.specs.Taken.{Fresh};
-ghost use Rattle.mast_sections.specs.Program.{HasRoom, Ran, Answers, Printed, Failing};
+ghost use Rattle.mast_sections.specs.Program.{HasRoom, Prints, Answers, Printed};
 
-use reading::Taken;
+use reading::TextError;
 use std::env::{Env, FillError};
 use std::io;
 use std::io::{Error, Read, Write};
-use text::reading as faults;
+use telling::Told;
 
-// Room for what a text says, in numbers. The sentences of `tell_limit` name these limits.
+// Room for what a text says, in numbers.
 const CELLS: usize = 1024;
 
 const SCRIPTS: usize = 32768;
 
 const EVENTS: usize = 655360;
 
-// How many bytes were handed to the writer, or why the text could not be read, or that it had no end.
-#[derive(Clone, Copy)]
-enum Ended {
-    Handed(usize),
+// Why the report was not written: the text could not be read, or had no end, or the report could not be written.
+#[derive(Clone, Copy, Debug)]
+enum RunError {
     Unread(Error),
     Unended,
+    Unwritten(Error),
 }
 
-fn tell_limit<E: Write>(err: &mut E, fault: u32) -> io::Result<()> {
-    if fault == faults::NO_ROOM_FOR_CELL {
-        return err.write_all(b"there is room for 1024 cells, and this is one more.\n");
-    }
-    if fault == faults::NO_ROOM_FOR_ROW {
-        return err.write_all(
-            b"there is room for 8192 lines of scripts, sections and steps, and this is one more.\n",
-        );
-    }
-    err.write_all(
-        b"there is room for 655360 numbers of events (a tick has 1, a turn 2, a create 6), and this event has more.\n",
-    )
-}
-
-fn tell_place<E: Write>(err: &mut E, fault: u32) -> io::Result<()> {
-    if fault == faults::STEP_WITHOUT_SECTION {
-        return err.write_all(b"this step is in no section.\n");
-    }
-    if fault == faults::SECTION_WITHOUT_SCRIPT {
-        return err.write_all(b"this section is in no script.\n");
-    }
-    if fault == faults::SCRIPT_IN_SECTION {
-        return err.write_all(b"a script begins before the section above it has its end.\n");
-    }
-    if fault == faults::RUN_IN_SECTION {
-        return err.write_all(b"the run begins before the section above it has its end.\n");
-    }
-    tell_limit(err, fault)
-}
-
-fn tell_fault<E: Write>(err: &mut E, fault: u32) -> io::Result<()> {
-    if fault == faults::NO_LINE {
-        return err.write_all(b"this is no cell, local, script, section or run.\n");
-    }
-    if fault == faults::LOCAL_OUT_OF_RANGE {
-        return err.write_all(
-            b"a local has a task from 1 to 32 and an index from 0 to 7, and this one has not.\n",
-        );
-    }
-    if fault == faults::END_WITHOUT_SECTION {
-        return err.write_all(b"this end has no section to end.\n");
-    }
-    tell_place(err, fault)
-}
-
-// A fault of the text, in one sentence with the number of its line.
-fn tell<E: Write>(err: &mut E, line: u32, fault: u32) -> io::Result<()> {
-    write!(err, "line {line}: ")?;
-    tell_fault(err, fault)
-}
-
-// Reads a text, and shows its run or tells its fault.
+// Reads a text, and shows its run or tells its fault. Returns how many bytes were handed to the writer.
 fn work<R: Read, W: Write, E: Write>(
     reader: &mut R,
     writer: &mut W,
@@ -96,30 +46,26 @@ fn work<R: Read, W: Write, E: Write>(
     events: &mut [u32],
     line: &mut [u8],
     input: &mut [u8],
-) -> io::Result<Ended>
+) -> Result<usize, RunError>
     requires { Fresh line.old (lent m.old ids.old cells.old locals.old scripts.old events.old)
         × HasRoom (lent m.old ids.old cells.old locals.old scripts.old events.old) }
-    ensures ran { IfOk result Ran }
-    ensures answers { 1 ≤ length input.old → IfOk result (λ ended.
-        Answers ended (R.remaining reader.old) (R.remaining reader.new) (W.contents writer.old) (W.contents writer.new)) }
-    ensures printed { 1 ≤ length input.old → IfOk result (λ ended. IfSome (R.remaining reader.old) (λ text.
-        Printed ended text (W.contents writer.old) (W.contents writer.new))) }
-    ensures failing { 1 ≤ length input.old → OnErr result
-        (Failing (R.remaining reader.old) (R.remaining reader.new) (W.contents writer.old) (W.contents writer.new)) }
+    ensures ran { IfOk result Prints }
+    ensures answers { 1 ≤ length input.old →
+        Answers result (R.remaining reader.old) (R.remaining reader.new) (W.contents writer.old) (W.contents writer.new) }
+    ensures printed { 1 ≤ length input.old → IfSome (R.remaining reader.old) (λ text.
+        Printed result text (W.contents writer.old) (W.contents writer.new)) }
 {
-    let taken = reading::read_text(reader, m, ids, cells, locals, scripts, events, line, input);
-    match taken {
-        Taken::Read(at) => {
-            let handed = showing::show(writer, m, ids, cells, locals, scripts, events, at)?;
-            Ok(Ended::Handed(handed))
-        }
-        Taken::Wrong { line: n, fault } => {
+    match reading::read_text(reader, m, ids, cells, locals, scripts, events, line, input) {
+        Ok(at) => showing::show(writer, m, ids, cells, locals, scripts, events, at).map_err(
+            RunError::Unwritten,
+        ),
+        Err(TextError::Faulty(faulty)) => {
             // What standard error does not take cannot be told.
-            let _ = tell(err, n, fault);
-            Ok(Ended::Handed(0))
+            let _ = writeln!(err, "{}", Told(faulty));
+            Ok(0)
         }
-        Taken::More(_) => Ok(Ended::Unended),
-        Taken::Unread(e) => Ok(Ended::Unread(e)),
+        Err(TextError::Unread(e)) => Err(RunError::Unread(e)),
+        Err(TextError::Unended(_)) => Err(RunError::Unended),
     }
 }
 
@@ -128,13 +74,10 @@ fn run<R: Read, W: Write, E: Write>(
     reader: &mut R,
     writer: &mut W,
     err: &mut E,
-) -> io::Result<Ended>
-    ensures answers { IfOk result (λ ended.
-        Answers ended (R.remaining reader.old) (R.remaining reader.new) (W.contents writer.old) (W.contents writer.new)) }
-    ensures printed { IfOk result (λ ended. IfSome (R.remaining reader.old) (λ text.
-        Printed ended text (W.contents writer.old) (W.contents writer.new))) }
-    ensures failing { OnErr result
-        (Failing (R.remaining reader.old) (R.remaining reader.new) (W.contents writer.old) (W.contents writer.new)) }
+) -> Result<usize, RunError>
+    ensures answers { Answers result (R.remaining reader.old) (R.remaining reader.new) (W.contents writer.old) (W.contents writer.new) }
+    ensures printed { IfSome (R.remaining reader.old) (λ text.
+        Printed result text (W.contents writer.old) (W.contents writer.new)) }
 {
     let mut memory = [0u8; tables::TABLES_LENGTH];
     let mut ids = [0u32; CELLS];
@@ -160,11 +103,11 @@ fn run<R: Read, W: Write, E: Write>(
 }
 
 // Why the text of this name was not read, or what it says not written.
-fn tell_end<E: Write>(err: &mut E, name: &[u8], ended: io::Result<Ended>) -> io::Result<()> {
+fn tell_end<E: Write>(err: &mut E, name: &[u8], ended: Result<usize, RunError>) -> io::Result<()> {
     match ended {
-        Ok(Ended::Unread(e)) => playing::tell(err, name, e),
-        Ok(_) => Ok(()),
-        Err(e) => playing::tell(err, b"standard output", e),
+        Ok(_) | Err(RunError::Unended) => Ok(()),
+        Err(RunError::Unread(e)) => playing::tell(err, name, e),
+        Err(RunError::Unwritten(e)) => playing::tell(err, b"standard output", e),
     }
 }
 

@@ -4,29 +4,14 @@ ghost use Rattle.runner.specs.Reply.{run_reply};
 ghost use Rattle.report.specs.Report.{report_text};
 ghost use Rattle.outcome.specs.Outcome.{report_after, Roomy};
 ghost use Rattle.text.specs.Feeding.{lent, reading_of, Inside};
-ghost use Rattle.mast_sections.specs.Program.{printed, HasRoom, Shows, Writes};
+ghost use Rattle.playing.specs.Streams.{WritesAll};
+ghost use Rattle.mast_sections.specs.Program.{printed, HasRoom, Shows};
 
 use std::io;
-use std::io::{Error, ErrorKind, Write};
+use std::io::Write;
 use text::At;
 
-// Writes all of what is said: how many bytes were handed to the writer. On an error a front of it is written.
-fn say<W: Write>(writer: &mut W, said: &[u8]) -> io::Result<usize>
-    ensures count { IfOk result (λ n. n ≡ length said.now) }
-    ensures written { Writes result (W.contents writer.old) (W.contents writer.new) said.now }
-{
-    let mut done = 0;
-    while done < said.len() {
-        let n = writer.write(&said[done..])?;
-        if n == 0 {
-            return Err(Error::new(ErrorKind::WriteZero, "failed to write whole buffer"));
-        }
-        done += n;
-    }
-    Ok(done)
-}
-
-// Runs the events, and hands the report on.
+// Runs the events, and hands the report on: how many bytes. On an error a front of it is written.
 #[tactic(auto, using(crate::proofs::Printing::report_fits, crate::proofs::Printing::report_long, crate::proofs::Printing::said_shows, crate::proofs::Printing::report_is, crate::proofs::Printing::writes_as))]
 fn show_run<W: Write>(
     writer: &mut W,
@@ -47,7 +32,7 @@ fn show_run<W: Write>(
     ensures shows { IfOk result (λ n. Shows n (report_text (report_after (run_reply m.old scripts.now events.now ids.now
         cells.old locals.old places.old grants.old)
         scripts.now cells.old locals.old)) out.new) }
-    ensures written { Writes result (W.contents writer.old) (W.contents writer.new)
+    ensures written { WritesAll result (W.contents writer.old) (W.contents writer.new)
         (report_text (report_after (run_reply m.old scripts.now events.now ids.now
         cells.old locals.old places.old grants.old)
         scripts.now cells.old locals.old)) }
@@ -66,10 +51,11 @@ fn show_run<W: Write>(
         plainlocals,
         out,
     );
-    say(writer, &out[..n])
+    playing::say(writer, &out[..n])?;
+    Ok(n)
 }
 
-// Runs what was read, with room of its own for what that leaves.
+/// Runs what was read, with room of its own for what that leaves.
 pub fn show<W: Write>(
     writer: &mut W,
     m: &mut [u8],
@@ -84,7 +70,7 @@ pub fn show<W: Write>(
         × HasRoom (lent m.old ids.now cells.old locals.old scripts.now events.now) }
     ensures count { IfOk result (λ n. n ≡ length (printed (reading_of at
         (lent m.old ids.now cells.old locals.old scripts.now events.now)))) }
-    ensures written { Writes result (W.contents writer.old) (W.contents writer.new)
+    ensures written { WritesAll result (W.contents writer.old) (W.contents writer.new)
         (printed (reading_of at (lent m.old ids.now cells.old locals.old scripts.now events.now))) }
 {
     let mut places = [0u32; 16384];
@@ -93,21 +79,18 @@ pub fn show<W: Write>(
     let mut plaincells = [0u32; 1024];
     let mut plainlocals = [0u32; 256];
     let mut out = [0u8; 524288];
-    let of_cells = at.cells;
-    let of_scripts = at.scripts;
-    let of_events = at.events;
     show_run(
         writer,
         m,
-        &scripts[..of_scripts],
-        &events[..of_events],
-        &ids[..of_cells],
-        &mut cells[..of_cells],
+        &scripts[..at.scripts],
+        &events[..at.events],
+        &ids[..at.cells],
+        &mut cells[..at.cells],
         locals,
         &mut places,
         &mut grants,
         &mut tasks,
-        &mut plaincells[..of_cells],
+        &mut plaincells[..at.cells],
         &mut plainlocals,
         &mut out,
     )

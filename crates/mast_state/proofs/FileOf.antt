@@ -1,8 +1,8 @@
 -- The file of lent tables: a write puts it at the front of a buffer that has room for the longest, and nothing else is written.
 use mathlib.Core.Path.{◌≡◌, sym, ap, ap₂, subst, ◌∙◌}
-use mathlib.Core.Bool.{Bool, true, false}
-use mathlib.Core.List.{List, ◌++◌}
-use mathlib.Core.Logic.{◌⊎◌, ⊎_elim, inl, inr}
+use mathlib.Core.Bool.{true, false}
+use mathlib.Core.List.{List, [], ◌++◌}
+use mathlib.Core.Logic.{⊎_elim}
 use Prim.Native.Nat.{ℕ, ◌+◌, ◌≤◌}
 use native.Mathlib.Decide.{dec_lt}
 use native.Mathlib.Omega.{arith}
@@ -11,20 +11,17 @@ use lib.Seq.{take_at, take_all, length-take-le}
 use Rattle.laws.specs.Choose.{◌and◌}
 use Rattle.laws.proofs.Choose.{if_yes, if_no, if_le, and_both, both_and, never, tested}
 use Rattle.rules.specs.declared.Answer.{Answer}
-use Rattle.rules.specs.Machine.{unstarted}
 use Rattle.rules.specs.Numbers.{successful}
 use Rattle.rules.specs.Calls.{answered}
 use Rattle.rules.proofs.Invariants.Agreeing.{true_agrees}
-use Rattle.tables.specs.Layout.{laid, model_of}
+use Rattle.tables.specs.Layout.{model_of}
 use Rattle.agreement.specs.Bytes.{agrees_bytes}
 use Rattle.line.specs.Print.{spliced}
 use Rattle.line.proofs.Printing.{spliced_front, spliced_twice}
-use Rattle.playing.specs.Turns.{Ran}
-use Rattle.playing.proofs.Turning.{ran_from_lem}
 use Rattle.state.specs.File.{is_started, state_file, longest_file}
 use Rattle.state.specs.Reply.{Reply, Replied, saved, save_reply}
 use Rattle.state.proofs.Lengths.{file_longest}
-use Rattle.mast_state.specs.Saved.{file_of, Files, Counts, suffix, Keeps, Saves}
+use Rattle.mast_state.specs.Saved.{file_of, Files, Counts, suffix}
 
 -- ---- a write
 
@@ -71,13 +68,13 @@ module _ (bs buffer : List ℕ) where
         absurd (no_file e (sym (ap (λ (a : Answer). a.status) w.answer) ∙ z)))
         (tested (agrees_bytes bs and is_started (model_of bs)))
 
-    pub files_none : longest_file ≤ length buffer → (r.status ≡ 0 → ⊥) → Files 0 bs buffer'
+    pub files_none : longest_file ≤ length buffer → (r.status ≡ 0 → ⊥) → file_of bs ≡ []
     unfolding file_of
     files_none room d =
         ⊎_elim
         (λ (e : (agrees_bytes bs and is_started (model_of bs)) ≡ true).
         absurd (d (ap (λ (a : Answer). a.status) (w.answer ∙ ap (λ (x : Reply). x.answer) (some_file e room)))))
-        (λ (e : (agrees_bytes bs and is_started (model_of bs)) ≡ false). record { all = ap length (sym (if_no _ _ e)); front = sym (if_no _ _ e) })
+        (λ (e : (agrees_bytes bs and is_started (model_of bs)) ≡ false). if_no _ _ e)
         (tested (agrees_bytes bs and is_started (model_of bs)))
 
 -- the file's length is within the buffer's
@@ -88,17 +85,9 @@ files_fit {n} {bs} {buffer} f =
       | no d ↦ omega arith
     ]
 
--- what is handed on of it is all or nothing
-pub keeps : {n : ℕ} {bs buffer : List ℕ} → Files n bs buffer → (m : ℕ) → (m ≡ 0) ⊎ (m ≡ length (take n buffer)) → Keeps m bs buffer
-keeps {n} {bs} {buffer} f m (inl e) = inl e
-keeps {n} {bs} {buffer} f m (inr e) =
-    inr (subst (λ (k : ℕ). Files k bs buffer) (sym (e ∙ length-take-le n buffer (files_fit f))) f)
-
--- after the whole of a session
-pub saves : {done : Bool} {bs buffer : List ℕ} (outset : List ℕ) → outset ≡ laid unstarted → Ran outset done bs → done ≡ true
-    → (n : ℕ) → Keeps n bs buffer → Saves n bs buffer
-saves outset e ran d n (inl z) = inl z
-saves {bs = bs} outset e ran d n (inr f) = inr (subst (λ (done : Bool). Ran (laid unstarted) done bs) d (ran_from_lem outset e ran), f)
+-- all of what stands at the front is handed on
+pub same_file : {n m : ℕ} {bs buffer : List ℕ} → Files n bs buffer → m ≡ length (take n buffer) → Files m bs buffer
+same_file {n} {m} {bs} {buffer} f e = subst (λ (k : ℕ). Files k bs buffer) (sym (e ∙ length-take-le n buffer (files_fit f))) f
 
 -- ---- the name of the file beside
 

@@ -27,9 +27,7 @@ use Rattle.state.specs.Reading.{tables_in, is_state}
 use Rattle.state.specs.Reply.{Reply, Replied, reply, loaded, load_reply}
 use Rattle.state.proofs.Promises.{state_agrees}
 use Rattle.shown.specs.Shown.{shown_text}
-use Rattle.mast_state.specs.declared.loading.Read.{Read}
-use Rattle.mast_state.specs.declared.loading.Read.TheVariants.{Bytes}
-use Rattle.mast_state.specs.Loaded.{Within, Loads, Loaded, LoadsSome, Resumed, Shows, Shown}
+use Rattle.mast_state.specs.Loaded.{Loads, Loaded, LoadsSome, Resumed, Shows, Shown}
 
 -- ---- a read into the tables of a machine that is not started
 
@@ -74,9 +72,6 @@ module _ (file : List ℕ) where
 
 pub loads_none : {bs : List ℕ} → bs ≡ laid unstarted → LoadsSome false bs
 loads_none e = record { when_loaded = λ f. never f refl; when_not = λ _. e }
-
-pub within : {r : Read} (n : ℕ) (buffer : List ℕ) → r ≡ Bytes n → Within r buffer → n ≤ length buffer
-within n buffer e w = subst (λ (r : Read). Within r buffer) e w
 
 -- ---- the tables that were loaded
 

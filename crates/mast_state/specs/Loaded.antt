@@ -8,13 +8,6 @@ use Rattle.calls.specs.Agreeing.{Agreeing}
 use Rattle.playing.specs.Turns.{Ran}
 use Rattle.state.specs.Reading.{tables_in, is_state}
 use Rattle.shown.specs.Shown.{shown_text}
-use Rattle.mast_state.specs.declared.loading.Read.{Read}
-use Rattle.mast_state.specs.declared.loading.Read.TheVariants.{Bytes, Failed}
-
--- a read gives no more than the buffer holds
-abbrev pub Within : Read → List ℕ → Type 0
-Within (Bytes n) buffer = n ≤ length buffer
-Within Failed buffer = Unit {0}
 
 -- so many bytes, at the buffer's front, are what the reader had left, or the buffer is full of the front of it
 pub record ReadsAll (unread unread' : Option (List ℕ)) (n : ℕ) (buffer : List ℕ) : Type 0 where
@@ -63,7 +56,3 @@ pub record Shown (n : ℕ) (out : List ℕ) : Type 0 where
   pub file : List ℕ
   pub valid : is_state file ≡ true
   pub shows : Shows n (shown_text (tables_in file)) out
-
--- unless there was none
-abbrev pub ShowsSome : ℕ → List ℕ → Type 0
-ShowsSome n out = (n ≡ 0) ⊎ Shown n out

@@ -1,5 +1,5 @@
 -- What the program saves: all of the file of the machine that a session leaves, and nothing else.
-use Rattle.std.specs.Prelude.{◌≡◌, true, List, [], ◌∷◌, ◌⊎◌, ℕ, ◌≤◌, length, take}
+use Rattle.std.specs.Prelude.{◌≡◌, true, List, [], ℕ, ◌≤◌, length, take, codes}
 use Rattle.laws.specs.Choose.{choose, ◌and◌}
 use Rattle.rules.specs.Machine.{unstarted}
 use Rattle.tables.specs.Layout.{laid, model_of}
@@ -22,12 +22,8 @@ Counts n xs = (n ≤ length xs) × (n ≡ length (take n xs))
 
 -- ".XXXXXX"
 abbrev pub suffix : List ℕ
-suffix = 46 ∷ 88 ∷ 88 ∷ 88 ∷ 88 ∷ 88 ∷ 88 ∷ []
+suffix = codes ".XXXXXX"
 
--- what is written is the file, or nothing is
-abbrev pub Keeps : ℕ → List ℕ → List ℕ → Type 0
-Keeps n bs buffer = (n ≡ 0) ⊎ Files n bs buffer
-
--- and it is that of the machine after the whole of some session, from a machine not yet started
+-- what is written is the file of the machine after the whole of some session, from a machine not yet started
 abbrev pub Saves : ℕ → List ℕ → List ℕ → Type 0
-Saves n bs buffer = (n ≡ 0) ⊎ (Ran (laid unstarted) true bs × Files n bs buffer)
+Saves n bs buffer = Ran (laid unstarted) true bs × Files n bs buffer

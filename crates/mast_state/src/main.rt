@@ -17,37 +17,24 @@ ghost use Rattle.mast_state.specs.Command.{command_of};
 use std::env::{Env, FillError};
 use telling::tell_words;
 
-#[derive(Clone, Copy)]
+#[derive(Clone, Copy, Debug, PartialEq, Eq)]
 enum Command {
     Save,
     Show,
     Resume,
-    Wrong,
 }
 
 // What the first word asks for, with so many arguments, the program's own name among them.
-fn command_of(word: &[u8], count: usize) -> Command
+#[tactic(auto, using(laws::proofs::Choose::cases), unfolding(crate::specs::Command::command_of))]
+fn command_of(word: &str, count: usize) -> Option<Command>
     ensures { result ≡ command_of word.now count }
 {
-    if count < 3 {
-        return Command::Wrong;
+    match (word, count) {
+        ("save", 3 | 4) => Some(Command::Save),
+        ("resume", 3 | 4) => Some(Command::Resume),
+        ("show", 3) => Some(Command::Show),
+        _ => None,
     }
-    if 4 < count {
-        return Command::Wrong;
-    }
-    if line::same_bytes(word, b"save") {
-        return Command::Save;
-    }
-    if line::same_bytes(word, b"resume") {
-        return Command::Resume;
-    }
-    if count == 4 {
-        return Command::Wrong;
-    }
-    if line::same_bytes(word, b"show") {
-        return Command::Show;
-    }
-    Command::Wrong
 }
 
 // How many arguments there are, the program's own name among them, or 5 where there are more.
@@ -78,17 +65,17 @@ fn work(
 )
     requires { (m.old ≡ laid unstarted) × (length path.now ≤ 4096) × (4096 ≤ length file.old) × (65536 ≤ length out.old) }
 {
+    // what failed is told where it does
     match command {
         Command::Save => {
-            saving::save(rt, path, m, file);
+            let _ = saving::save(rt, path, m, file);
         }
         Command::Show => {
-            showing::show(rt, path, m, file, out);
+            let _ = showing::show(rt, path, m, file, out);
         }
         Command::Resume => {
-            sessions::resume(rt, path, m, file);
+            let _ = sessions::resume(rt, path, m, file);
         }
-        Command::Wrong => tell_usage(rt),
     }
 }
 
@@ -106,7 +93,9 @@ fn run_named(rt: &HostRuntime, command: Command) {
     let mut path = [0u8; 4096];
     match rt.arg(2, &mut path) {
         Ok(length) => run(rt, command, &path[..length]),
-        Err(FillError::TooLong) => tell_words(rt, b"the argument: File name too long\n"),
+        Err(FillError::TooLong) => {
+            tell_words(rt, b"the argument: File name too long\n");
+        }
         Err(FillError::NotPresent) => tell_usage(rt),
     }
 }
@@ -114,9 +103,9 @@ fn run_named(rt: &HostRuntime, command: Command) {
 fn main(rt: HostRuntime) {
     let mut word = [0u8; 8];
     let length = rt.arg(1, &mut word).unwrap_or(0);
-    let command = command_of(&word[..length], arg_count(&rt));
-    match command {
-        Command::Wrong => tell_usage(&rt),
-        Command::Save | Command::Show | Command::Resume => run_named(&rt, command),
+    let word = std::str::from_utf8(&word[..length]).unwrap_or("");
+    match command_of(word, arg_count(&rt)) {
+        Some(command) => run_named(&rt, command),
+        None => tell_usage(&rt),
     }
 }

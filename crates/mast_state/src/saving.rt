@@ -1,13 +1,13 @@
 // The machine that a session leaves, in a state file.
-ghost use Rattle.std.specs.Prelude.{◌≡◌, ◌++◌, ◌⊎◌, ◌+◌, ◌≤◌, length, take, OnOk};
+ghost use Rattle.std.specs.Prelude.{◌≡◌, ◌++◌, ◌+◌, ◌≤◌, [], length, take, IfOk, OnOk, MatchOption};
 ghost use Rattle.std.specs.Io.KnownBytes.{Appends};
 ghost use Rattle.rules.specs.Machine.{unstarted};
 ghost use Rattle.tables.specs.Layout.{laid};
 ghost use Rattle.state.specs.File.{longest_file};
-ghost use Rattle.mast_state.specs.Saved.{Counts, suffix, Files, Keeps, Saves};
+ghost use Rattle.mast_state.specs.Saved.{Counts, suffix, file_of, Files, Saves};
 
 use super::sessions;
-use super::telling::{tell, tell_words};
+use super::telling::{Told, tell, tell_words};
 use std::fs::{Files, OpenFile, OpenOptions};
 use std::io::{Error, ErrorKind, Write};
 use std::os::unix::fs::OpenOptionsExt;
@@ -20,16 +20,16 @@ const LETTERS: &[u8; 62] = b"abcdefghijklmnopqrstuvwxyzABCDEFGHIJKLMNOPQRSTUVWXY
 // How many names are tried before it is given up.
 const TRIES: u32 = 62 * 62 * 62;
 
-// Puts the file of the tables at the buffer's front and returns its length, or 0 where there is none.
-fn file_of(m: &[u8], file: &mut [u8]) -> usize
+// Puts the file of the tables at the buffer's front and returns its length, if there is one.
+fn file_of(m: &[u8], file: &mut [u8]) -> Option<usize>
     requires { longest_file ≤ length file.old }
-    ensures { Files result m.now file.new }
+    ensures { MatchOption result (file_of m.now ≡ []) (λ n. Files n m.now file.new) }
 {
     let answer = state::save(m, file);
     if answer.status != rules::SUCCESSFUL {
-        return 0;
+        return None;
     }
-    answer.value as usize
+    Some(answer.value as usize)
 }
 
 // The name of a file beside the one of this path, as `create_temp` asks for it.
@@ -55,14 +55,11 @@ fn put_letters(name: &mut [u8], random: &[u8; 6]) {
 
 // Opens a file of this name that was not there, for its owner alone.
 fn create_new<R: Files>(rt: &R, name: &[u8]) -> io::Result<R::File> {
-    match playing::text_of(name) {
-        Ok(text) => OpenOptions::new()
-            .write(true)
-            .create_new(true)
-            .mode(0o600)
-            .open(rt, text),
-        Err(error) => Err(error),
-    }
+    OpenOptions::new()
+        .write(true)
+        .create_new(true)
+        .mode(0o600)
+        .open(rt, playing::text_of(name)?)
 }
 
 // Opens a file that was not there, with letters in the name's X's that no other file has.
@@ -72,12 +69,8 @@ fn create_temp<R: Files + RandomSource>(rt: &R, name: &mut [u8]) -> io::Result<R
         rt.fill_bytes(&mut random)?;
         put_letters(name, &random);
         match create_new(rt, name) {
-            Ok(file) => return Ok(file),
-            Err(error) => {
-                if error.kind() != ErrorKind::AlreadyExists {
-                    return Err(error);
-                }
-            }
+            Err(error) if error.kind() == ErrorKind::AlreadyExists => {}
+            opened => return opened,
         }
     }
     Err(Error::from(ErrorKind::AlreadyExists))
@@ -97,10 +90,7 @@ fn fill<R: Files>(mut file: R::File, contents: &[u8]) -> io::Result<()> {
 }
 
 fn rename<R: Files>(rt: &R, from: &[u8], to: &[u8]) -> io::Result<()> {
-    match (playing::text_of(from), playing::text_of(to)) {
-        (Ok(from), Ok(to)) => fs::rename(rt, from, to),
-        (Err(error), _) | (_, Err(error)) => Err(error),
-    }
+    fs::rename(rt, playing::text_of(from)?, playing::text_of(to)?)
 }
 
 // A file that is not there, or can't be removed, is left as it is.
@@ -111,33 +101,25 @@ fn unlink<R: Files>(rt: &R, name: &[u8]) {
 }
 
 // Fills a file beside the one of this path and then gives it that name, or removes it again: nobody sees half a file.
-fn replace_by(rt: &HostRuntime, name: &mut [u8], path: &[u8], contents: &[u8]) -> usize
-    ensures { (result ≡ 0) ⊎ (result ≡ length contents.now) }
+fn replace_by(rt: &HostRuntime, name: &mut [u8], path: &[u8], contents: &[u8]) -> io::Result<usize>
+    ensures { IfOk result (λ n. n ≡ length contents.now) }
 {
-    let filled = match create_temp(rt, name) {
-        Ok(file) => fill::<HostRuntime>(file, contents),
-        Err(error) => {
-            tell(rt, path, error);
-            return 0;
-        }
+    let file = create_temp(rt, name)?;
+    let replaced = match fill::<HostRuntime>(file, contents) {
+        Ok(()) => rename(rt, name, path),
+        Err(error) => Err(error),
     };
-    if let Err(error) = filled {
-        tell(rt, path, error);
+    if let Err(error) = replaced {
         unlink(rt, name);
-        return 0;
+        return Err(error);
     }
-    if let Err(error) = rename(rt, name, path) {
-        tell(rt, path, error);
-        unlink(rt, name);
-        return 0;
-    }
-    contents.len()
+    Ok(contents.len())
 }
 
-// Returns how many bytes the file of this path has now, or 0 where it is as it was.
-fn replace(rt: &HostRuntime, path: &[u8], contents: &[u8]) -> usize
+// Returns how many bytes the file of this path has now. On an error it is as it was.
+fn replace(rt: &HostRuntime, path: &[u8], contents: &[u8]) -> io::Result<usize>
     requires { length path.now ≤ 4096 }
-    ensures { (result ≡ 0) ⊎ (result ≡ length contents.now) }
+    ensures { IfOk result (λ n. n ≡ length contents.now) }
 {
     let mut name = [0u8; 4103];
     let end = name_beside(path, &mut name);
@@ -145,28 +127,24 @@ fn replace(rt: &HostRuntime, path: &[u8], contents: &[u8]) -> usize
 }
 
 // Writes the file of the tables, and nothing where there is none. Returns how many bytes it has.
-fn keep(rt: &HostRuntime, path: &[u8], m: &[u8], file: &mut [u8]) -> usize
+fn keep(rt: &HostRuntime, path: &[u8], m: &[u8], file: &mut [u8]) -> Result<usize, Told>
     requires { (length path.now ≤ 4096) × (longest_file ≤ length file.old) }
-    ensures { Keeps result m.now file.new }
+    ensures { IfOk result (λ n. Files n m.now file.new) }
 {
-    let length = file_of(m, file);
-    if length == 0 {
-        tell_words(
+    let Some(length) = file_of(m, file) else {
+        return Err(tell_words(
             rt,
             b"the session starts no machine, so there is no state to save.\n",
-        );
-        return 0;
-    }
-    replace(rt, path, &file[..length])
+        ));
+    };
+    replace(rt, path, &file[..length]).map_err(|error| tell(rt, path, error))
 }
 
-// Plays a session from a machine that is not started, and saves what it leaves if all of it was read and answered.
-pub fn save(rt: &HostRuntime, path: &[u8], m: &mut [u8], file: &mut [u8]) -> usize
+/// Plays a session from a machine that is not started, and saves what it leaves if all of it was read and answered.
+pub fn save(rt: &HostRuntime, path: &[u8], m: &mut [u8], file: &mut [u8]) -> Result<usize, Told>
     requires { (m.old ≡ laid unstarted) × (length path.now ≤ 4096) × (longest_file ≤ length file.old) }
-    ensures { Saves result m.new file.new }
+    ensures { IfOk result (λ n. Saves n m.new file.new) }
 {
-    if !sessions::play(rt, m) {
-        return 0;
-    }
+    sessions::play(rt, m)?;
     keep(rt, path, m, file)
 }

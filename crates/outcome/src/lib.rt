@@ -16,38 +16,19 @@ use rules::Answer;
 // Numbers of all grants that a run may give, their count before them.
 const GRANTS: usize = 513;
 
-fn copy(from: &[u32], to: &mut [u32])
-    requires { length to.old ≡ length from.now }
-    ensures { to.new ≡ from.now }
-{
-    let mut i = 0;
-    while i < from.len() {
-        to[i] = from[i];
-        i += 1;
-    }
-}
-
 // Where the pairs of the grants end.
 fn grants_end(grants: &[u32]) -> usize
     requires { length grants.now ≡ 513 }
     ensures { (1 ≤ result) × (result ≤ 513) × (take (result - 1) (drop 1 grants.now) ≡ pairs_in grants.now) }
 {
-    let end = 1 + 2 * (grants[0] as usize);
-    if GRANTS < end {
-        return GRANTS;
-    }
-    end
+    (1 + 2 * (grants[0] as usize)).min(GRANTS)
 }
 
 fn task_count(m: &[u8]) -> usize
     requires { length m.now ≡ tables_length }
     ensures { (result ≡ tasks_in m.now) × (result ≤ 32) }
 {
-    let n = tables::task_count(m);
-    if rules::MAX_TASKS < n {
-        return rules::MAX_TASKS as usize;
-    }
-    n as usize
+    tables::task_count(m).min(rules::MAX_TASKS) as usize
 }
 
 // Runs the events, and plainly on copies of the cells and locals the sections that they granted.
@@ -70,8 +51,8 @@ fn run_twice(
     ensures plainly { memory plaincells.new plainlocals.new
         ≡ plain (scripts_of scripts.now) (grants_of (pairs_in grants.new)) (memory cells.old locals.old) }
 {
-    copy(cells, plaincells);
-    copy(locals, plainlocals);
+    plaincells.copy_from_slice(cells);
+    plainlocals.copy_from_slice(locals);
     let a = runner::run(m, scripts, events, ids, cells, locals, places, grants);
     if a.status == 0 {
         let end = grants_end(grants);

@@ -3,28 +3,24 @@
 
 pub mod tasks;
 
-ghost use Rattle.std.specs.Prelude.{◌≡◌, ◌+◌, ◌/◌, ◌≤◌, ◌<◌, length, drop};
+ghost use Rattle.std.specs.Prelude.{◌≡◌, ◌≤◌, length};
 ghost use Rattle.sections.specs.Scripts.{do_steps, steps_of, plain};
-ghost use Rattle.encoding.specs.Rows.{rows_of, steps_from, scripts_of};
+ghost use Rattle.encoding.specs.Rows.{scripts_of};
+ghost use Rattle.encoding.specs.Left.{steps_left};
 ghost use Rattle.encoding.specs.Laid.{memory};
 ghost use Rattle.runner.specs.Turns.{Stepped};
 ghost use Rattle.plain.specs.Grants.{granted, grants_of, Tasked, Reach};
 
-use encoding::{memory, rows};
+use encoding::memory;
+use encoding::scripts::{self, Steps};
 
-// Task q takes all steps of the section at row r.
-fn steps_at(scripts: &[u32], r: usize, q: u32, cells: &mut [u32], locals: &mut [u32])
-    requires { (r < length scripts.now / 4) × (1 ≤ q) × (q ≤ 32) × (length locals.old ≡ 256) × Reach (length cells.old)
-        (steps_from (drop (r + 1) (rows_of scripts.now))) }
-    ensures { memory cells.new locals.new ≡ do_steps q (steps_from (drop (r + 1) (rows_of scripts.now)))
-        (memory cells.old locals.old) }
+// Task q takes all steps of a section.
+fn take_steps(steps: Steps<'_>, q: u32, cells: &mut [u32], locals: &mut [u32])
+    requires { (1 ≤ q) × (q ≤ 32) × (length locals.old ≡ 256) × Reach (length cells.old) (steps_left steps) }
+    ensures { memory cells.new locals.new ≡ do_steps q (steps_left steps.entry) (memory cells.old locals.old) }
 {
-    let steps = rows::step_count(scripts, r + 1);
-    let mut position = 1;
-    while position <= steps {
-        let row = rows::row_at(scripts, r + position);
-        memory::do_step(cells, locals, q, row);
-        position += 1;
+    for step in steps {
+        memory::do_step(cells, locals, q, step);
     }
 }
 
@@ -34,28 +30,22 @@ fn take_section(scripts: &[u32], q: u32, section: u32, cells: &mut [u32], locals
     ensures { memory cells.new locals.new ≡ do_steps q (steps_of (scripts_of scripts.now) (granted q section))
         (memory cells.old locals.old) }
 {
-    let n = rows::row_count(scripts);
-    let found = rows::script_of(scripts, q);
-    if n <= found.row {
+    let Some((_, script)) = scripts::script_of(scripts, q) else {
         return;
-    }
-    let r = rows::section_of(scripts, found.row + 1, section as usize);
-    if n <= r {
+    };
+    let Some(section) = script.section(section as usize) else {
         return;
-    }
-    steps_at(scripts, r, q, cells, locals);
+    };
+    take_steps(section.steps, q, cells, locals);
 }
 
-// The granted sections, in the order of the grants: pairs of a task and a section laid end to end.
+/// The granted sections, in the order of the grants: pairs of a task and a section laid end to end.
 pub fn plain_run(scripts: &[u32], grants: &[u32], cells: &mut [u32], locals: &mut [u32])
     requires { Tasked scripts.now × Stepped scripts.now (length cells.old) × (length locals.old ≡ 256) }
     ensures { memory cells.new locals.new ≡ plain (scripts_of scripts.now) (grants_of grants.now)
         (memory cells.old locals.old) }
 {
-    let n = grants.len() / 2;
-    let mut i = 0;
-    while i < n {
+    for i in 0..grants.len() / 2 {
         take_section(scripts, grants[2 * i], grants[2 * i + 1], cells, locals);
-        i += 1;
     }
 }

@@ -3,24 +3,15 @@ ghost use Rattle.std.specs.Prelude.{◌≡◌, map, ◌/◌, ◌≤◌, length, 
 ghost use Rattle.encoding.specs.Rows.{scripts_of};
 ghost use Rattle.plain.specs.Grants.{task_in};
 
-use encoding::rows;
+use encoding::scripts::{self, Scripts};
 
-// Notes the tasks in the order of their scripts, and returns how many they are.
+/// Notes the tasks in the order of their scripts, and returns how many they are.
 pub fn tasks_of(scripts: &[u32], tasks: &mut [u32]) -> usize
     requires { length scripts.now / 4 ≤ length tasks.old }
     ensures { (result ≡ length (scripts_of scripts.now)) × (take result tasks.new ≡ map task_in (scripts_of scripts.now)) }
 {
-    let n = rows::row_count(scripts);
-    let mut i = 0;
-    let mut r = 0;
-    while r < n {
-        let row = rows::row_at(scripts, r);
-        r += 1;
-        if row.kind != rows::SCRIPT {
-            continue;
-        }
-        tasks[i] = row.a;
-        i += 1;
+    for (i, script) in Scripts::new(scripts).enumerate() {
+        tasks[i] = script.task;
     }
-    i
+    scripts::script_count(scripts)
 }

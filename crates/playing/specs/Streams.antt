@@ -1,15 +1,9 @@
 -- What a session does to a reader and to a writer: what is read is fed, and what is said is written, where the bytes of either are known.
 use Rattle.std.specs.Prelude.{◌≡◌, List, [], ◌∷◌, ◌++◌, ◌⊎◌, ℕ, ◌≤◌, Option, Result, Ok, Err, take, length, replicate, MatchResult, codes}
 use Rattle.std.specs.Io.KnownBytes.{Consumes, Appends, IsAtEnd}
-use Rattle.std.specs.declared.io.Error.{Error}
 use Rattle.session.specs.Kept.{Kept, keeps, after_part, said_to_part, at_end}
-use Rattle.playing.specs.declared.Heard.{Heard}
-use Rattle.playing.specs.declared.Heard.TheVariants.{Bytes, End, Failed}
 use Rattle.playing.specs.declared.PlayError.{PlayError}
 use Rattle.playing.specs.declared.PlayError.TheVariants.{Unread, Unwritten}
-use Rattle.playing.specs.declared.State.{State}
-use Rattle.playing.specs.declared.State.TheVariants.{Going, Done, Broken}
-use Rattle.playing.specs.declared.Turn.{Turn}
 
 -- ---- what is written
 
@@ -21,30 +15,27 @@ AppendsFront old new bs = (n : ℕ) × Appends old new (take n bs)
 abbrev pub WritesAll : {T E : Type 0} → Result T E → Option (List ℕ) → Option (List ℕ) → List ℕ → Type 0
 WritesAll r old new bs = MatchResult r (λ _. Appends old new bs) (λ _. AppendsFront old new bs)
 
--- likewise after a turn
-abbrev pub Hands : State → Option (List ℕ) → Option (List ℕ) → List ℕ → Type 0
-Hands Going old new bs = Appends old new bs
-Hands Done old new bs = Appends old new bs
-Hands (Broken e) old new bs = AppendsFront old new bs
-
--- what is next after a write, unless it failed
-abbrev pub state_after : Result Unit Error → State → State
-state_after (Ok x) next = next
-state_after (Err e) next = Broken (Unwritten e)
-
 -- ---- what is read
 
--- what a read gave is what the reader had next; where there was room for a byte, the end is that of all that it had
-abbrev pub Hears : Heard → Option (List ℕ) → Option (List ℕ) → List ℕ → Type 0
-Hears (Bytes n) old new input = Consumes old new (take n input)
-Hears End old new input = Consumes old new [] × (1 ≤ length input → IsAtEnd new)
-Hears (Failed e) old new input = Consumes old new []
+-- what a read gave is what the reader had next; where there was room for a byte, none is the end of all that it had
+abbrev pub Hears : {E : Type 0} → Result ℕ E → Option (List ℕ) → Option (List ℕ) → List ℕ → Type 0
+Hears (Ok n) old new input = Consumes old new (take n input) × (n ≡ 0 → 1 ≤ length input → IsAtEnd new)
+Hears (Err e) old new input = Consumes old new []
 
--- what is said to it
-abbrev pub said_to_heard : Heard → Turn → Kept → List ℕ → List ℕ
-said_to_heard (Bytes n) r k input = said_to_part k (take r.taken (take n input))
-said_to_heard End r k input = (at_end k).output
-said_to_heard (Failed e) r k input = []
+-- ---- a part
+
+-- all of it is fed, and all that is said to it is written
+pub record FedAll (k : Kept) (part : List ℕ) (k' : Kept) (written written' : Option (List ℕ)) : Type 0 where
+  pub kept : k' ≡ after_part k part
+  pub said : Appends written written' (said_to_part k part)
+
+-- a write failed: a front of it is fed, which is not empty, and a front of what is said to that is written
+pub record CutOff (k : Kept) (part : List ℕ) (k' : Kept) (written written' : Option (List ℕ)) : Type 0 where
+  pub taken : ℕ
+  pub some : 1 ≤ taken
+  pub inside : taken ≤ length part
+  pub kept : k' ≡ after_part k (take taken part)
+  pub said : AppendsFront written written' (said_to_part k (take taken part))
 
 -- ---- one after another
 
@@ -74,12 +65,6 @@ pub record BrokeOff (unread unread' written written' : Option (List ℕ)) (k : K
   pub read : Consumes unread unread' (text ++ unfed)
   pub left : ((bs ≡ (after_part k text).bytes) × AppendsFront written written' (said_to_part k text))
       ⊎ ((bs ≡ (at_end (after_part k text)).bytes) × AppendsFront written written' (said_to_whole k text))
-
--- after a turn
-abbrev pub Goes : State → (unread unread' written written' : Option (List ℕ)) → Kept → (bs line : List ℕ) → (begun : ℕ) → Type 0
-Goes Going unread unread' written written' k bs line begun = Feeds unread unread' written written' k (keeps bs line begun)
-Goes Done unread unread' written written' k bs line begun = Played unread unread' written written' k bs
-Goes (Broken e) unread unread' written written' k bs line begun = BrokeOff unread unread' written written' k bs
 
 -- no line yet
 abbrev pub fresh : List ℕ → Kept

@@ -11,61 +11,39 @@ use rules::{Best, Task};
 fn index_of(q: u32) -> usize
     ensures { result ≡ pred q }
 {
-    if q == 0 {
-        return 0;
-    }
-    q as usize - 1
+    q.saturating_sub(1) as usize
 }
 
 // The number that task q goes by: the working priority that is given for it, or its own where none is.
 fn goes_by(working: &[u32], q: u32, own: u32) -> u32
     ensures { result ≡ get_or working.now (pred q) own }
 {
-    let place = index_of(q);
-    if place < working.len() {
-        return working[place];
-    }
-    own
+    working.get(index_of(q)).copied().unwrap_or(own)
 }
 
-// The next task of a list of records of any length, as the core chooses it from the sequence of ready tasks by the working priorities that are
-// given beside the records; tasks are counted from 1, and a number that is no record's is passed over.
+/// The next task of a list of records of any length, as the core chooses it from the sequence of ready tasks by the working priorities that are
+/// given beside the records; tasks are counted from 1, and a number that is no record's is passed over.
 pub fn mast_next_task(tasks: &[Task], ready: &[u32], working: &[u32]) -> u32
     ensures { result ≡ next_of tasks.now ready.now working.now }
 {
+    // 0 for none, as the rules' `most_urgent` and the answer in C have it
     let mut best = Best {
         task: 0,
         priority: rules::ABOVE_ALL,
     };
-    let mut k: usize = 0;
-    while k < ready.len() {
-        let q = ready[k];
-        k += 1;
-        let i = index_of(q);
-        if i < tasks.len() {
-            let v = tasks[i];
-            best = rules::better(best, tasks.len(), q, goes_by(working, q, v.priority));
+    for q in ready {
+        if let Some(v) = tasks.get(index_of(*q)) {
+            best = rules::better(best, tasks.len(), *q, goes_by(working, *q, v.priority));
         }
     }
     best.task
 }
 
-// A wait ends: the task is ready, with the wait's answer.
-fn readied(v: Task, answer: u32) -> Task
-    ensures { result ≡ readied v answer }
-{
-    Task {
-        priority: v.priority,
-        answer: answer,
-        awaited: 0,
-        ticks: 0,
-    }
-}
-
-// One task is woken: its record alone changes.
+/// One task is woken with its wait's answer: its record alone changes.
 pub fn mast_wake_task(task: &mut Task, answer: u32)
     ensures { task.new ≡ readied task.old answer }
 {
-    let v = *task;
-    *task = readied(v, answer);
+    task.answer = answer;
+    task.awaited = 0;
+    task.ticks = 0;
 }

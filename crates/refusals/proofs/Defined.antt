@@ -1,9 +1,11 @@
 -- What 11 asks, part by part, and the whole from the parts.
-use mathlib.Core.Path.{◌≡◌, sym, ◌∙◌}
+use mathlib.Core.Path.{◌≡◌, refl, sym, ap, ◌∙◌}
+use native.Mathlib.Decide.{dec_lt}
+use Rattle.std.specs.Prelude.{Result, Ok, Err, MatchResult}
 use mathlib.Core.Bool.{Bool, true, false}
 use mathlib.Core.List.{List}
 use mathlib.Core.Logic.{⊎_elim}
-use Prim.Native.Nat.{ℕ, ◌*◌, ◌/◌, ◌≤◌, ◌<◌}
+use Prim.Native.Nat.{ℕ, ◌*◌, ◌/◌, ◌<◌}
 use native.Mathlib.Omega.{arith}
 use lib.Dec.{leb, eqb}
 use lib.ListN.{length}
@@ -12,6 +14,9 @@ use Rattle.laws.specs.Choose.{choose}
 use Rattle.laws.specs.All.{all}
 use Rattle.laws.proofs.Choose.{and_both, both_and, tested, never, if_yes, if_no}
 use Rattle.laws.proofs.All.{all_at, all_of}
+use Rattle.rules.specs.declared.refusal.Refusal.{Refusal}
+use Rattle.rules.specs.Status.{status_of, status}
+use Rattle.rules.proofs.Refused.{refused}
 use Rattle.rules.specs.Machine.{Tables}
 use Rattle.rules.specs.Agreement.{Agrees}
 use Rattle.rules.proofs.Invariants.Agreeing.{agrees_true}
@@ -65,8 +70,8 @@ module _ (t : Tables) (ns ids cells locals : List ℕ) (events : List Event) whe
         sections =
             sections_of w (section_fits t ids)
             (λ i h k j.
-            both_and (section_at_lem w (λ s. leb (length s.steps) 16) m.0 i h k j)
-            (both_and (section_at_lem w (are_steps ids) b.0 i h k j) (section_at_lem w (λ s. is_guard t s.id) d.1 i h k j)));
+            both_and (both_and (section_at_lem w (λ s. leb (length s.steps) 16) m.0 i h k j) (section_at_lem w (are_steps ids) b.0 i h k j))
+            (section_at_lem w (λ s. is_guard t s.id) d.1 i h k j));
         few = n.0;
         paired = o.0;
         room = o.1;
@@ -80,11 +85,10 @@ module _ (t : Tables) (ns ids cells locals : List ℕ) (events : List Event) whe
       let at = section_at_lem w (section_fits t ids) p.sections in
       both_and
       (both_and p.short
-      (both_and (sections_of w (λ s. leb (length s.steps) 16) (λ i h k j. (and_both _ _ (at i h k j)).0))
+      (both_and (sections_of w (λ s. leb (length s.steps) 16) (λ i h k j. (and_both _ _ (and_both _ _ (at i h k j)).0).0))
       (both_and p.few (both_and p.paired p.room))))
-      (both_and (sections_of w (are_steps ids) (λ i h k j. (and_both _ _ (and_both _ _ (at i h k j)).1).0))
-      (both_and p.one
-      (both_and p.events' (sections_of w (λ s. is_guard t s.id) (λ i h k j. (and_both _ _ (and_both _ _ (at i h k j)).1).1)))))
+      (both_and (sections_of w (are_steps ids) (λ i h k j. (and_both _ _ (and_both _ _ (at i h k j)).0).1))
+      (both_and p.one (both_and p.events' (sections_of w (λ s. is_guard t s.id) (λ i h k j. (and_both _ _ (at i h k j)).1)))))
 
   -- a part that fails
   pub undefined : (x : Bool) → (Parts → x ≡ true) → x ≡ false → false ≡ is_defined t w events
@@ -104,17 +108,20 @@ module _ (ns es ps : List ℕ) where
   lengths_rows f = sym (if_no _ false f)
 
   module _ (f : rows_fit ns ≡ true) (n : ℕ) (e : n ≡ length (scripts_of ns)) where
-    pub lengths_room : length ps / 2 < n → false ≡ lengths_fit ns es ps
-    unfolding lengths_fit
-    lengths_room h = sym (if_yes _ false f ∙ if_no _ false (lt-leb (2 * length (scripts_of ns)) (length ps) (omega arith)))
+    room : leb n (length ps / 2) ≡ leb (2 * length (scripts_of ns)) (length ps)
+    room =
+        elim (dec_lt (length ps / 2) n) [
+          | yes h ↦ lt-leb n (length ps / 2) h ∙ sym (lt-leb (2 * length (scripts_of ns)) (length ps) (omega arith))
+          | no h ↦ le-leb n (length ps / 2) (omega arith) ∙ sym (le-leb (2 * length (scripts_of ns)) (length ps) (omega arith))
+        ]
 
-    pub lengths_last : n ≤ length ps / 2 → leb (length es) 4294967295 ≡ lengths_fit ns es ps
+    pub lengths_room : leb n (length ps / 2) ≡ false → false ≡ lengths_fit ns es ps
     unfolding lengths_fit
-    lengths_last h = sym (if_yes _ false f ∙ if_yes _ false (le-leb (2 * length (scripts_of ns)) (length ps) (omega arith)))
+    lengths_room h = sym (if_yes _ false f ∙ if_no _ false (sym room ∙ h))
 
-  pub lengths_fit_lem : lengths_fit ns es ps ≡ true → rows_fit ns ≡ true
-  unfolding lengths_fit
-  lengths_fit_lem e = (and_both (rows_fit ns) _ e).0
+    pub lengths_last : leb n (length ps / 2) ≡ true → leb (length es) 4294967295 ≡ lengths_fit ns es ps
+    unfolding lengths_fit
+    lengths_last h = sym (if_yes _ false f ∙ if_yes _ false (sym room ∙ h))
 
 -- what 4 asks, part by part
 module _ (t : Tables) (w : Input) (events : List Event) where
@@ -126,18 +133,36 @@ module _ (t : Tables) (w : Input) (events : List Event) where
   unfolding is_permitted
   permitted_last r = sym (if_yes _ false r)
 
--- what is refused, once the tables agree
+-- ---- what a demand refuses
+
+pub demanded : (r : Result (Unit {0}) Refusal) (holds : Bool) (refusal : Refusal) → MatchResult r (λ x. holds ≡ true) (λ e. (holds ≡ false) × (e ≡ refusal))
+    → status r ≡ choose holds 0 (status_of refusal)
+demanded (Ok x) holds refusal h = sym (if_yes 0 (status_of refusal) h)
+demanded (Err e) holds refusal h = ap status_of h.1 ∙ sym (if_no 0 (status_of refusal) h.0)
+
+-- a part that fails
+pub fallen : (n : ℕ) (b : Bool) → false ≡ b → n ≡ choose b 0 n
+fallen n b e = sym (if_no 0 n (sym e))
+
 module _ (t : Tables) (a : Agrees t) (w : Input) (events : List Event) where
-  agreeing : refusal t w events ≡ choose (is_defined t w events) (choose (is_permitted t w events) 0 4) 11
+  pub agreeing : refusal t w events ≡ choose (is_defined t w events) (choose (is_permitted t w events) 0 4) 11
   unfolding refusal is_defined is_permitted
   agreeing = if_yes _ 25 (agrees_true t a)
 
-  pub refused_11 : is_defined t w events ≡ false → 11 ≡ refusal t w events
-  refused_11 f = sym (agreeing ∙ if_no _ 11 f)
+-- of two checks, one after the other, the first refuses, or it passes
+module _ (n : ℕ) (b : Bool) (later : ℕ) where
+  pub stopped : (e : Refusal) → status_of e ≡ choose b 0 n → status_of e ≡ choose b later n
+  unfolding choose
+  stopped e h = go b h
+    where
+      go : (b : Bool) → status_of e ≡ choose b 0 n → status_of e ≡ choose b later n
+      go true h = absurd (omega (arith, refused e))
+      go false h = h
 
-  module _ (d : is_defined t w events ≡ true) where
-    pub refused_4 : is_permitted t w events ≡ false → 4 ≡ refusal t w events
-    refused_4 f = sym (agreeing ∙ if_yes _ 11 d ∙ if_no 0 4 f)
-
-    pub not_refused : is_permitted t w events ≡ true → 0 ≡ refusal t w events
-    not_refused p = sym (agreeing ∙ if_yes _ 11 d ∙ if_yes 0 4 p)
+  pub passed : (n ≡ 0 → ⊥) → 0 ≡ choose b 0 n → later ≡ choose b later n
+  unfolding choose
+  passed z h = go b h
+    where
+      go : (b : Bool) → 0 ≡ choose b 0 n → later ≡ choose b later n
+      go true h = refl
+      go false h = absurd (z (sym h))

@@ -7,10 +7,14 @@ use Prim.Native.Nat.{ℕ, zero, suc, pred, ◌-◌, ◌%◌, ◌≤◌}
 use native.Mathlib.Omega.{arith}
 use lib.Dec.{leb, ltb, eqb}
 use lib.ListN.{length, get_or}
-use borrow.Author.Tests.{eqb-true, eqb-false, leb-true, leb-false, le-leb, lt-leb, lt-ltb, le-ltb}
+use borrow.Author.Tests.{ne_eqb, eqb-true, eqb-false, leb-true, leb-false, le-leb, lt-leb, lt-ltb, le-ltb}
 use Rattle.laws.specs.Choose.{choose, ◌and◌, isnt}
 use Rattle.laws.proofs.Choose.{if_yes, if_no, tested}
 use Rattle.words.specs.Words.{word_at}
+use Rattle.std.specs.Prelude.{Result, Ok, Err, is_ok}
+use Rattle.rules.specs.declared.refusal.Refusal.{Refusal}
+use Rattle.rules.specs.Status.{status_of, status}
+use Rattle.rules.proofs.Refused.{refused}
 use Rattle.rules.specs.Numbers.{is_binary}
 use Rattle.rules.specs.Machine.{Tables, Slot, task_of, slot_of, free_slot, waits, slot_named}
 use Rattle.rules.specs.Calls.{task_only}
@@ -53,6 +57,10 @@ module _ (bs : List ℕ) (id n : ℕ) (e : n ≡ slot_named (model_of bs) id) wh
             ∙ ap slot_from (sym r)
 
 -- ---- a task
+
+pub ok_status : (r : Result (Unit {0}) Refusal) → is_ok r ≡ eqb (status r) 0
+ok_status (Ok x) = refl
+ok_status (Err e) = sym (ne_eqb (status_of e) 0 (λ z. omega (arith, refused e)))
 
 ready_cases : (a b w : Bool) → eqb (choose a 18 (choose (eqb (choose b 4 (choose w 14 0)) 0) 0 (choose b 4 (choose w 14 0)))) 0 ≡ ((isnt a and isnt b) and isnt
     w)

@@ -1,3 +1,3 @@
-pub mod Testing
 pub mod Guards
 pub mod Defined
+pub mod Testing

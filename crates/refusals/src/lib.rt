@@ -3,124 +3,92 @@
 
 mod tests;
 
-ghost use Rattle.std.specs.Prelude.{◌≡◌, true, List, ℕ};
-ghost use Rattle.tables.specs.Layout.{model_of};
-ghost use Rattle.tables.specs.Sizes.{Sized};
+ghost use Rattle.std.specs.Prelude.{◌≡◌, true, false, MatchResult};
+ghost use Rattle.laws.specs.Choose.{choose};
+ghost use Rattle.rules.specs.Status.{status};
+ghost use Rattle.tables.specs.View.{seen};
 ghost use Rattle.calls.specs.Agreeing.{Agreeing};
-ghost use Rattle.sections.specs.Scripts.{Memory};
-ghost use Rattle.sections.specs.Refusals.{refusal};
-ghost use Rattle.encoding.specs.Rows.{scripts_of, rows_fit};
 ghost use Rattle.encoding.specs.Events.{events_of};
+ghost use Rattle.refusals.specs.Tests.{scripts_alone};
 ghost use Rattle.refusals.specs.Defined.{input_of, lengths_fit, is_defined, is_permitted, refusal_where};
-ghost use Rattle.refusals.specs.Tests.{input_with};
 
-use encoding::rows;
+use encoding::{memory, scripts};
+use rules::Refusal;
+use tables::View;
 
 const MAX_CELLS: usize = 64;
 
-const LOCALS: usize = 256;
+// What a count of grants can hold.
+const MAX_EVENTS: usize = 4294967295;
 
-// 11: the rule for lengths.
-fn are_lengths_fit(scripts: &[u32], events: &[u32], places: &[u32]) -> bool
-    ensures { result ≡ lengths_fit scripts.now events.now places.now }
+// What a run demands: what does not hold is refused.
+fn demand(holds: bool, refusal: Refusal) -> Result<(), Refusal>
+    ensures { MatchResult result (λ x. holds ≡ true) (λ e. (holds ≡ false) × (e ≡ refusal)) }
 {
-    if !tests::are_rows_fit(scripts) {
-        return false;
-    }
-    if places.len() / 2 < rows::script_count(scripts) {
-        return false;
-    }
-    events.len() <= 4294967295
+    if holds { Ok(()) } else { Err(refusal) }
 }
 
-// 11: everything else.
-fn is_defined(
-    m: &[u8],
+// The rule for lengths: 11.
+fn check_lengths(scripts: &[u32], events: &[u32], places: &[u32]) -> Result<(), Refusal>
+    ensures { status result ≡ choose (lengths_fit scripts.now events.now places.now) 0 11 }
+{
+    demand(tests::are_rows_fit(scripts), Refusal::NotDefined)?;
+    demand(
+        scripts::script_count(scripts) <= places.len() / 2,
+        Refusal::NotDefined,
+    )?;
+    demand(events.len() <= MAX_EVENTS, Refusal::NotDefined)
+}
+
+// Everything else that is refused with 11.
+fn check_input(
+    v: View<'_>,
     scripts: &[u32],
     events: &[u32],
     ids: &[u32],
     cells: &[u32],
     locals: &[u32],
-) -> bool
-    requires { Sized m.now × (rows_fit scripts.now ≡ true) }
-    ensures { result ≡ is_defined (model_of m.now)
-        (input_of scripts.now ids.now cells.now locals.now) (events_of events.now) }
+) -> Result<(), Refusal>
+    ensures { status result ≡ choose (is_defined (seen v.entry)
+        (input_of scripts.now ids.now cells.now locals.now) (events_of events.now)) 0 11 }
 {
-    if MAX_CELLS < cells.len() {
-        return false;
-    }
-    if ids.len() != cells.len() {
-        return false;
-    }
-    if locals.len() != LOCALS {
-        return false;
-    }
-    if !tests::are_scripts_short(scripts) {
-        return false;
-    }
-    if !tests::are_sections_fit(m, scripts, ids) {
-        return false;
-    }
-    if !tests::is_one_each(scripts) {
-        return false;
-    }
-    tests::are_events(events)
+    demand(cells.len() <= MAX_CELLS, Refusal::NotDefined)?;
+    demand(ids.len() == cells.len(), Refusal::NotDefined)?;
+    demand(locals.len() == memory::ALL_LOCALS, Refusal::NotDefined)?;
+    demand(tests::are_scripts_short(scripts), Refusal::NotDefined)?;
+    demand(
+        tests::are_sections_fit(v, scripts, ids),
+        Refusal::NotDefined,
+    )?;
+    demand(tests::is_one_each(scripts), Refusal::NotDefined)?;
+    demand(tests::are_events(events), Refusal::NotDefined)
 }
 
-// 4: whether every script's task is ready, and every event is allowed.
-fn is_permitted(m: &[u8], scripts: &[u32], events: &[u32]) -> bool
-    requires { Sized m.now }
-    ensures { (ids : List ℕ) (memory : Memory) → result ≡ is_permitted (model_of m.now) (input_with scripts.now ids memory)
-        (events_of events.now) }
+// What is refused with 4: a script's task that is not ready, and an event that is not allowed.
+fn check_tasks(v: View<'_>, scripts: &[u32], events: &[u32]) -> Result<(), Refusal>
+    ensures { status result ≡ choose (is_permitted (seen v.entry) (scripts_alone scripts.now)
+        (events_of events.now)) 0 4 }
 {
-    if !tests::are_scripts_ready(m, scripts) {
-        return false;
-    }
-    tests::are_allowed(scripts, events)
+    demand(tests::are_scripts_ready(v, scripts), Refusal::InvalidId)?;
+    demand(tests::are_allowed(scripts, events), Refusal::InvalidId)
 }
 
-// Why a run whose lengths fit is refused: 11 over the whole input, then 4; 0 where it is not.
-#[tactic(auto, using(calls::proofs::Agreeing::sized, crate::proofs::Defined::refused_11, crate::proofs::Defined::refused_4, crate::proofs::Defined::not_refused))]
-fn first_refusal(
-    m: &[u8],
-    scripts: &[u32],
-    events: &[u32],
-    ids: &[u32],
-    cells: &[u32],
-    locals: &[u32],
-) -> u32
-    requires { Agreeing m.now × (rows_fit scripts.now ≡ true) }
-    ensures { result ≡ refusal (model_of m.now)
-        (input_of scripts.now ids.now cells.now locals.now) (events_of events.now) }
-{
-    let defined = is_defined(m, scripts, events, ids, cells, locals);
-    let permitted = is_permitted(m, scripts, events);
-    if !defined {
-        return rules::NOT_DEFINED;
-    }
-    if !permitted {
-        return rules::INVALID_ID;
-    }
-    0
-}
-
-// Why a run on agreeing tables is refused: by the rule for lengths, or by what the numbers say; 0 where it is not.
+/// Why a run on agreeing tables is refused: 11 over the whole input, then 4.
 pub fn refusal(
-    m: &[u8],
+    v: View<'_>,
     scripts: &[u32],
     events: &[u32],
     ids: &[u32],
     cells: &[u32],
     locals: &[u32],
     places: &[u32],
-) -> u32
-    requires { Agreeing m.now }
-    ensures { result ≡ refusal_where (model_of m.now)
+) -> Result<(), Refusal>
+    requires { Agreeing v.bytes.now }
+    ensures { status result ≡ refusal_where (seen v.entry)
         (input_of scripts.now ids.now cells.now locals.now) scripts.now events.now
         places.now }
 {
-    if are_lengths_fit(scripts, events, places) {
-        return first_refusal(m, scripts, events, ids, cells, locals);
-    }
-    rules::NOT_DEFINED
+    check_lengths(scripts, events, places)?;
+    check_input(v, scripts, events, ids, cells, locals)?;
+    check_tasks(v, scripts, events)
 }

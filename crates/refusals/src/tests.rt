@@ -1,299 +1,197 @@
 // What is refused, a test for each kind, before the first event.
-ghost use Rattle.std.specs.Prelude.{◌≡◌, true, List, ℕ, ◌+◌, ◌/◌, ◌≤◌, ◌<◌, ltb, length, get_or, drop};
-ghost use Rattle.laws.specs.Choose.{when};
-ghost use Rattle.laws.specs.All.{all};
-ghost use Rattle.tables.specs.Layout.{model_of};
-ghost use Rattle.tables.specs.Sizes.{Sized};
+ghost use Rattle.std.specs.Prelude.{◌≡◌, List, ℕ, leb, length};
+ghost use Rattle.laws.specs.Choose.{◌and◌};
+ghost use Rattle.tables.specs.View.{seen};
 ghost use Rattle.sections.specs.Scripts.{Memory};
-ghost use Rattle.sections.specs.Scripts.Step.{NoStep};
-ghost use Rattle.sections.specs.Refusals.{each_script, each_section, each_event, is_event, is_cell, is_step, is_guard, is_ready, has_script, is_allowed, one_script_each};
-ghost use Rattle.encoding.specs.Rows.{row_at, rows_of, begins_script, begins_section, step_of, steps_from, section_of, script_of, scripts_of, row_fits, rows_fit};
-ghost use Rattle.encoding.specs.Events.{event_size, event_at, events_of};
-ghost use Rattle.refusals.specs.Tests.{input_with, scripts_alone, is_short, section_fits};
+ghost use Rattle.sections.specs.Refusals.{each_script, each_section, each_event, is_event, is_cell, is_local, is_step, is_guard, is_ready, has_script, is_allowed, one_script_each};
+ghost use Rattle.encoding.specs.Rows.{step_of, scripts_of, follows, rows_fit};
+ghost use Rattle.encoding.specs.Left.{section_from, script_from, sections_left};
+ghost use Rattle.encoding.specs.Events.{events_of};
+ghost use Rattle.encoding.specs.Kinds.{event_from};
+ghost use Rattle.refusals.specs.Tests.{input_with, scripts_alone, is_short, are_steps, sections_fit, section_fits, is_first};
 
-use encoding::{Row, events, rows};
+use encoding::events::{self, Event, Events};
+use encoding::memory;
+use encoding::rows::{Row, Rows, Step};
+use encoding::scripts::{self, Script, Scripts, Section, Sections};
+use tables::View;
 
 const MAX_SECTIONS: usize = 8;
 
 const MAX_STEPS: usize = 16;
 
-const LOCALS: u32 = 8;
-
 // Whether a row stands where it may: a step in a section, a section in a script.
-fn is_row_fit(scripts: &[u32], r: usize) -> bool
-    requires { r < length scripts.now / 4 }
-    ensures { result ≡ row_fits scripts.now r }
+fn may_follow(last: Option<Row>, row: Row) -> bool
+    ensures { result ≡ follows last row }
 {
-    let row = rows::row_at(scripts, r);
-    if row.kind == rows::SCRIPT {
-        return true;
+    match row {
+        Row::Script { .. } => true,
+        Row::Section { .. } => last.is_some(),
+        Row::Step(_) => matches!(last, Some(Row::Section { .. } | Row::Step(_))),
     }
-    if r == 0 {
-        return false;
-    }
-    if row.kind == rows::SECTION {
-        return true;
-    }
-    let last = rows::row_at(scripts, r - 1);
-    last.kind != rows::SCRIPT
 }
 
-// 11: whether the numbers are whole rows, each where it may stand.
+/// 11: whether the numbers are whole rows, each where it may stand.
 pub fn are_rows_fit(scripts: &[u32]) -> bool
     ensures { result ≡ rows_fit scripts.now }
 {
     if scripts.len() % 4 != 0 {
         return false;
     }
-    let n = rows::row_count(scripts);
-    let mut r = 0;
-    while r < n {
-        if !is_row_fit(scripts, r) {
+    let mut last = None;
+    for row in Rows::new(scripts) {
+        if !may_follow(last, row) {
             return false;
         }
-        r += 1;
+        last = Some(row);
     }
     true
 }
 
-fn is_script_short(scripts: &[u32], r: usize) -> bool
-    requires { r < length scripts.now / 4 }
-    ensures { result ≡ when (begins_script (row_at scripts.now r))
-        (is_short (script_of (row_at scripts.now r) (drop (r + 1) (rows_of scripts.now)))) }
+fn is_script_short(script: Script<'_>) -> bool
+    ensures { result ≡ is_short (script_from script.entry) }
 {
-    let row = rows::row_at(scripts, r);
-    if row.kind == rows::SCRIPT {
-        return rows::row_count(scripts) <= rows::section_of(scripts, r + 1, MAX_SECTIONS);
-    }
-    true
+    script.section(MAX_SECTIONS).is_none()
 }
 
-// 11: whether no script has more than 8 sections.
+/// 11: whether no script has more than 8 sections.
 pub fn are_scripts_short(scripts: &[u32]) -> bool
     ensures { result ≡ each_script (scripts_alone scripts.now) is_short }
 {
-    let n = rows::row_count(scripts);
-    let mut r = 0;
-    while r < n {
-        if !is_script_short(scripts, r) {
-            return false;
-        }
-        r += 1;
-    }
-    true
+    Scripts::new(scripts).all(|script| is_script_short(script))
 }
 
+#[tactic(auto, using(encoding::proofs::Every::chained))]
 fn is_cell(ids: &[u32], id: u32, cell: u32) -> bool
     ensures { result ≡ is_cell ids.now id cell }
 {
     let at = cell as usize;
-    if ids.len() <= at {
-        return false;
-    }
-    ids[at] == id
+    at < ids.len() && ids[at] == id
 }
 
-// Whether a row in a section of that identifier is a step.
-fn is_step_fit(ids: &[u32], id: u32, row: Row) -> bool
-    ensures { result ≡ is_step ids.now id (step_of row) }
+fn is_local(local: u32) -> bool
+    ensures { result ≡ is_local local }
 {
-    if row.kind == rows::LOAD {
-        if !is_cell(ids, id, row.a) {
-            return false;
-        }
-        return row.b < LOCALS;
-    }
-    if row.kind == rows::STORE {
-        if LOCALS <= row.a {
-            return false;
-        }
-        return is_cell(ids, id, row.b);
-    }
-    if row.kind == rows::SET {
-        return row.a < LOCALS;
-    }
-    if row.kind == rows::ADD {
-        if LOCALS <= row.a {
-            return false;
-        }
-        return row.b < LOCALS;
-    }
-    false
+    (local as usize) < memory::LOCALS
 }
 
-// 11: whether the steps from a row on are steps of a section with that identifier.
-fn are_steps_fit(scripts: &[u32], ids: &[u32], from: usize, id: u32) -> bool
-    ensures { result ≡ all (length (steps_from (drop from (rows_of scripts.now))))
-        (λ k. is_step ids.now id (get_or (steps_from (drop from (rows_of scripts.now))) k NoStep)) }
+// Whether a section of that identifier may take a step.
+#[tactic(auto, using(encoding::proofs::Every::chained))]
+fn is_step_fit(ids: &[u32], id: u32, step: Option<Step>) -> bool
+    ensures { result ≡ is_step ids.now id (step_of step) }
 {
-    let n = rows::step_count(scripts, from);
-    let mut k = 0;
-    while k < n {
-        if !is_step_fit(ids, id, rows::row_at(scripts, from + k)) {
-            return false;
-        }
-        k += 1;
+    match step {
+        Some(Step::Load { cell, local }) => is_cell(ids, id, cell) && is_local(local),
+        Some(Step::Store { local, cell }) => is_local(local) && is_cell(ids, id, cell),
+        Some(Step::Set { local, .. }) => is_local(local),
+        Some(Step::Add { local, other }) => is_local(local) && is_local(other),
+        None => false,
     }
-    true
+}
+
+// 11: at most 16 steps, each of which the section may take.
+fn are_steps_fit(ids: &[u32], section: Section<'_>) -> bool
+    ensures { result ≡ (leb (length (section_from section.entry).steps) 16 and are_steps ids.now (section_from section.entry)) }
+{
+    let mut steps = section.steps;
+    section.step(MAX_STEPS).is_none() && steps.all(|step| is_step_fit(ids, section.id, step))
 }
 
 // 11: whether an identifier names a live, unowned semaphore with attributes 16, 20 or 84.
-fn is_guard(m: &[u8], id: u32) -> bool
-    requires { Sized m.now }
-    ensures { result ≡ is_guard (model_of m.now) id }
+fn is_guard(v: View<'_>, id: u32) -> bool
+    ensures { result ≡ is_guard (seen v.entry) id }
 {
-    let n = lookup::slot_named(m, id);
-    if n == 0 {
+    let Some(n) = lookup::slot_named(v, id) else {
         return false;
-    }
-    let s = tables::load_slot(m, (n - 1) as usize);
-    if !rules::is_binary(s.attributes) {
-        return false;
-    }
-    s.owner == 0
+    };
+    let s = v.head((n - 1) as usize);
+    rules::is_binary(s.attributes) && s.owner == 0
 }
 
-fn is_section_fit(m: &[u8], scripts: &[u32], ids: &[u32], r: usize) -> bool
-    requires { Sized m.now × (r < length scripts.now / 4) }
-    ensures { result ≡ when (begins_section (row_at scripts.now r)) (section_fits (model_of m.now) ids.now
-        (section_of (row_at scripts.now r) (drop (r + 1) (rows_of scripts.now)))) }
+#[tactic(auto, using(encoding::proofs::Every::chained), unfolding(crate::specs::Tests::section_fits))]
+fn is_section_fit(v: View<'_>, ids: &[u32], section: Section<'_>) -> bool
+    ensures { result ≡ section_fits (seen v.entry) ids.now (section_from section.entry) }
 {
-    let row = rows::row_at(scripts, r);
-    if row.kind != rows::SECTION {
-        return true;
-    }
-    if MAX_STEPS < rows::step_count(scripts, r + 1) {
-        return false;
-    }
-    if !are_steps_fit(scripts, ids, r + 1, row.a) {
-        return false;
-    }
-    is_guard(m, row.a)
+    are_steps_fit(ids, section) && is_guard(v, section.id)
 }
 
-// 11: whether every section is as it should be.
-pub fn are_sections_fit(m: &[u8], scripts: &[u32], ids: &[u32]) -> bool
-    requires { Sized m.now × (rows_fit scripts.now ≡ true) }
-    ensures { result ≡ each_section (scripts_alone scripts.now) (section_fits (model_of m.now) ids.now) }
+fn are_all_fit(v: View<'_>, ids: &[u32], mut sections: Sections<'_>) -> bool
+    ensures { result ≡ sections_fit (seen v.entry) ids.now (sections_left sections.entry) }
 {
-    let n = rows::row_count(scripts);
-    let mut r = 0;
-    while r < n {
-        if !is_section_fit(m, scripts, ids, r) {
-            return false;
-        }
-        r += 1;
-    }
-    true
+    sections.all(|section| is_section_fit(v, ids, section))
 }
 
-// 11: whether each script is the first of its task.
+/// 11: whether every section is as it should be.
+pub fn are_sections_fit(v: View<'_>, scripts: &[u32], ids: &[u32]) -> bool
+    ensures { result ≡ each_section (scripts_alone scripts.now) (section_fits (seen v.entry) ids.now) }
+{
+    Scripts::new(scripts).all(|script| are_all_fit(v, ids, script.sections))
+}
+
+#[tactic(auto, using(laws::proofs::Choose::cases))]
+fn is_first(scripts: &[u32], i: usize, q: u32) -> bool
+    ensures { result ≡ is_first (scripts_of scripts.now) i q }
+{
+    match scripts::script_of(scripts, q) {
+        Some((first, _)) => first == i,
+        None => false,
+    }
+}
+
+/// 11: whether each script is the first of its task.
 pub fn is_one_each(scripts: &[u32]) -> bool
     ensures { result ≡ one_script_each (scripts_alone scripts.now) }
 {
-    let n = rows::row_count(scripts);
-    let mut i = 0;
-    let mut r = 0;
-    while r < n {
-        let row = rows::row_at(scripts, r);
-        if row.kind == rows::SCRIPT {
-            let first = rows::script_of(scripts, row.a);
-            if first.index != i {
-                return false;
-            }
-            i += 1;
-        }
-        r += 1;
-    }
-    true
+    Scripts::new(scripts)
+        .enumerate()
+        .all(|(i, script)| is_first(scripts, i, script.task))
 }
 
-// 11: whether every event is one.
+/// 11: whether every event is one.
 pub fn are_events(events: &[u32]) -> bool
     ensures { result ≡ each_event (events_of events.now) is_event }
 {
-    let mut at = 0;
-    while at < events.len() {
-        let size = events::event_size(&events[at..]);
-        if size == 0 {
-            return false;
-        }
-        at += size;
-    }
-    true
+    Events::new(events).all(|event| event.is_some())
 }
 
 // 4: whether a task is ready.
-fn is_ready(m: &[u8], q: u32) -> bool
-    requires { Sized m.now }
-    ensures { result ≡ is_ready (model_of m.now) q }
+fn is_ready(v: View<'_>, q: u32) -> bool
+    ensures { result ≡ is_ready (seen v.entry) q }
 {
-    lookup::task_only(m, q) == 0
+    lookup::task_only(v, q).is_ok()
 }
 
-fn is_script_ready(m: &[u8], scripts: &[u32], r: usize) -> bool
-    requires { Sized m.now × (r < length scripts.now / 4) }
-    ensures { result ≡ when (begins_script (row_at scripts.now r)) (is_ready (model_of m.now) (row_at scripts.now r).a) }
+/// 4: whether the task of every script is ready.
+pub fn are_scripts_ready(v: View<'_>, scripts: &[u32]) -> bool
+    ensures { result ≡ each_script (scripts_alone scripts.now) (λ s. is_ready (seen v.entry) s.task) }
 {
-    let row = rows::row_at(scripts, r);
-    if row.kind == rows::SCRIPT {
-        return is_ready(m, row.a);
-    }
-    true
-}
-
-// 4: whether the task of every script is ready.
-pub fn are_scripts_ready(m: &[u8], scripts: &[u32]) -> bool
-    requires { Sized m.now }
-    ensures { result ≡ each_script (scripts_alone scripts.now) (λ s. is_ready (model_of m.now) s.task) }
-{
-    let n = rows::row_count(scripts);
-    let mut r = 0;
-    while r < n {
-        if !is_script_ready(m, scripts, r) {
-            return false;
-        }
-        r += 1;
-    }
-    true
+    Scripts::new(scripts).all(|script| is_ready(v, script.task))
 }
 
 // Whether a task has a script.
 fn has_script(scripts: &[u32], q: u32) -> bool
     ensures { result ≡ has_script (scripts_alone scripts.now) q }
 {
-    let found = rows::script_of(scripts, q);
-    found.row < rows::row_count(scripts)
+    scripts::script_of(scripts, q).is_some()
 }
 
 // 4: whether an event is a turn of a task with a script, or no script task's call.
-fn is_allowed(scripts: &[u32], e: &[u32]) -> bool
-    requires { 1 ≤ event_size e.now }
-    ensures { (ids : List ℕ) (memory : Memory) → result ≡ is_allowed (input_with scripts.now ids memory) (event_at e.now) }
+fn is_allowed(scripts: &[u32], event: Option<Event<'_>>) -> bool
+    ensures { (ids : List ℕ) (memory : Memory) → result ≡ is_allowed (input_with scripts.now ids memory) (event_from event.entry) }
 {
-    if events::number_at(e, 0) == events::TURN {
-        return has_script(scripts, events::number_at(e, 1));
+    let Some(event) = event else {
+        return true;
+    };
+    match event {
+        Event::Turn { task } => has_script(scripts, task),
+        Event::Call { call, .. } => !has_script(scripts, events::caller_of(call)),
     }
-    let call = events::call_at(e);
-    let caller = events::caller_of(call);
-    !has_script(scripts, caller)
 }
 
-// 4: whether every event is allowed.
+/// 4: whether every event is allowed.
 pub fn are_allowed(scripts: &[u32], events: &[u32]) -> bool
     ensures { (ids : List ℕ) (memory : Memory) → result ≡ each_event (events_of events.now)
         (is_allowed (input_with scripts.now ids memory)) }
 {
-    let mut at = 0;
-    while at < events.len() {
-        let size = events::event_size(&events[at..]);
-        if size == 0 {
-            return true;
-        }
-        if !is_allowed(scripts, &events[at..]) {
-            return false;
-        }
-        at += size;
-    }
-    true
+    Events::new(events).all(|event| is_allowed(scripts, event))
 }

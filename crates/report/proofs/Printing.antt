@@ -6,21 +6,14 @@ use Prim.Native.Nat.{ℕ, zero, suc, ◌+◌, ◌-◌, ◌*◌, ◌/◌, ◌≤�
 use native.Mathlib.Numerals.{add-one}
 use native.Mathlib.Omega.{arith}
 use lib.Dec.{leb, eqb}
-use lib.ListN.{length, get_or, take, drop, length-append, length-drop}
-use lib.Seq.{take_at, drop-cons}
+use lib.ListN.{length, get_or, take, drop}
+use lib.Seq.{drop-cons}
 use borrow.Author.Tests.{eq-eqb, ne_eqb}
 use Rattle.laws.specs.Choose.{choose}
 use Rattle.laws.specs.Rows.{tabulate, rows}
 use Rattle.laws.proofs.Fit.{tabulate_same}
 use Rattle.line.specs.Print.{decimal}
 use Rattle.report.specs.Report.{spaced, paired, pair_text, line_text, open_pairs, place_word}
-
--- a number's digits without the byte that ends them
-pub digits_part : (bytes : List ℕ) (v end from : ℕ) → length bytes ≡ 11 → from ≤ 10 → drop from bytes ≡ decimal v ++ end ∷ []
-    → take (10 - from) (drop from bytes) ≡ decimal v
-digits_part bytes v end from n h e =
-    let l : length (decimal v) ≡ 10 - from = omega (arith, ap length e, length-append (decimal v) (end ∷ []), length-drop from bytes) in
-    ap (λ (t : List ℕ). take (10 - from) t) e ∙ take_at (decimal v) (end ∷ []) (10 - from) l
 
 abbrev pub number_at : List ℕ → ℕ → List ℕ
 number_at ns i = 32 ∷ decimal (get_or ns i 0)

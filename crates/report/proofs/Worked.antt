@@ -6,7 +6,6 @@ use lib.ListN.{replicate}
 use Rattle.laws.specs.Choose.{choose}
 use Rattle.laws.specs.Rows.{tabulate, rows}
 use Rattle.rules.specs.declared.Answer.{Answer}
-use Rattle.line.specs.Line.{same_bytes}
 use Rattle.line.specs.Print.{digits_before, decimal, answer_line}
 use Rattle.report.specs.Report.{report_of, report_text, left_text, run_text, plain_text, spaced, paired, line_text, pairs_text}
 use Rattle.report.specs.Report.{locals_text, places_text, open_pairs}
@@ -92,5 +91,5 @@ worked :
     (report_text (report_of (answer 0 1) 2 (100 ∷ 7 ∷ []) (locals_of 100 5) (1 ∷ 2 ∷ []) (0 ∷ 2 ∷ 0 ∷ 0 ∷ []) (1 ∷ 0 ∷ []) (105 ∷ 7 ∷ [])
     (locals_of 105 5)) ≡ open_text) ×
     (report_text (report_of (answer 11 0) 1 [] (locals_of 4294967295 0) [] [] [] [] (locals_of 0 0)) ≡ other_text)
-unfolding report_text left_text run_text plain_text spaced paired line_text pairs_text locals_text places_text open_pairs answer_line digits_before decimal same_bytes choose tabulate rows
+unfolding report_text left_text run_text plain_text spaced paired line_text pairs_text locals_text places_text open_pairs answer_line digits_before decimal choose tabulate rows
 worked = (refl, refl, refl)

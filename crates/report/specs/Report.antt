@@ -1,40 +1,40 @@
 -- The text that a run of guarded sections leaves: the answer, cells, locals, places, grants, the sections open, and the plain run beside them.
-use Rattle.std.specs.Prelude.{Bool, List, [], ◌∷◌, ◌++◌, ◌≡◌, ℕ, suc, ◌+◌, ◌*◌, ◌≤◌, max, leb, eqb, length, get_or, take, drop}
+use Rattle.std.specs.Prelude.{Bool, List, [], ◌∷◌, ◌++◌, ◌≡◌, ℕ, suc, ◌+◌, ◌*◌, ◌≤◌, max, leb, eqb, length, get_or, take, drop, codes}
 use Rattle.laws.specs.Choose.{choose, ◌and◌}
 use Rattle.laws.specs.Rows.{tabulate, rows}
 use Rattle.rules.specs.declared.Answer.{Answer}
 use Rattle.line.specs.Line.{same_bytes as same_numbers}
 use Rattle.line.specs.Print.{decimal, answer_line, spliced}
 
--- ---- the words, byte by byte
+-- ---- the words
 
 abbrev pub cells_word : List ℕ
-cells_word = 99 ∷ 101 ∷ 108 ∷ 108 ∷ 115 ∷ []
+cells_word = codes "cells"
 
 abbrev pub locals_word : List ℕ
-locals_word = 108 ∷ 111 ∷ 99 ∷ 97 ∷ 108 ∷ 115 ∷ []
+locals_word = codes "locals"
 
 abbrev pub place_word : List ℕ
-place_word = 112 ∷ 108 ∷ 97 ∷ 99 ∷ 101 ∷ []
+place_word = codes "place"
 
 abbrev pub grants_word : List ℕ
-grants_word = 103 ∷ 114 ∷ 97 ∷ 110 ∷ 116 ∷ 115 ∷ []
+grants_word = codes "grants"
 
 abbrev pub open_word : List ℕ
-open_word = 111 ∷ 112 ∷ 101 ∷ 110 ∷ []
+open_word = codes "open"
 
 -- "plain " before a word
 abbrev pub plainly : List ℕ → List ℕ
-plainly w = 112 ∷ 108 ∷ 97 ∷ 105 ∷ 110 ∷ 32 ∷ w
+plainly w = codes "plain " ++ w
 
 abbrev pub serial_yes : List ℕ
-serial_yes = 115 ∷ 101 ∷ 114 ∷ 105 ∷ 97 ∷ 108 ∷ 32 ∷ 121 ∷ 101 ∷ 115 ∷ 10 ∷ []
+serial_yes = codes "serial yes\n"
 
 abbrev pub serial_no : List ℕ
-serial_no = 115 ∷ 101 ∷ 114 ∷ 105 ∷ 97 ∷ 108 ∷ 32 ∷ 110 ∷ 111 ∷ 10 ∷ []
+serial_no = codes "serial no\n"
 
 abbrev pub serial_open : List ℕ
-serial_open = 115 ∷ 101 ∷ 114 ∷ 105 ∷ 97 ∷ 108 ∷ 32 ∷ 111 ∷ 112 ∷ 101 ∷ 110 ∷ 10 ∷ []
+serial_open = codes "serial open\n"
 
 -- ---- a line
 

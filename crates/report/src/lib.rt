@@ -33,7 +33,7 @@ fn print_run(
     lines::print_pairs(out, grants_at, b"grants", grants)
 }
 
-// Prints all that a run left, with the plain run beside it, at the front of `out`, and returns the text's length.
+/// Prints all that a run left, with the plain run beside it, at the front of `out`, and returns the text's length.
 pub fn report(
     out: &mut [u8],
     a: Answer,

@@ -9,10 +9,7 @@ fn put_behind(out: &mut [u8], at: usize, mark: u8, v: u32) -> usize
     ensures { Written at (mark ∷ decimal v) out.old out.new result }
 {
     out[at] = mark;
-    let t = line::text_of(v, mark);
-    let bytes = t.bytes;
-    let from = t.from;
-    line::put(out, at + 1, &bytes[from..10])
+    line::put_number(out, at + 1, v)
 }
 
 fn put_numbers(out: &mut [u8], at: usize, ns: &[u32]) -> usize
@@ -20,10 +17,8 @@ fn put_numbers(out: &mut [u8], at: usize, ns: &[u32]) -> usize
     ensures { Written at (spaced ns.now) out.old out.new result }
 {
     let mut end = at;
-    let mut i = 0;
-    while i < ns.len() {
-        end = put_behind(out, end, 32, ns[i]);
-        i += 1;
+    for n in ns {
+        end = put_behind(out, end, b' ', *n);
     }
     end
 }
@@ -43,7 +38,7 @@ pub fn print_task(out: &mut [u8], at: usize, word: &[u8], task: u32, ns: &[u32])
     ensures { Written at (line_text word.now (task ∷ ns.now)) out.old out.new result }
 {
     let task_at = line::put(out, at, word);
-    let numbers_at = put_behind(out, task_at, 32, task);
+    let numbers_at = put_behind(out, task_at, b' ', task);
     let end = put_numbers(out, numbers_at, ns);
     line::put(out, end, b"\n")
 }
@@ -52,20 +47,17 @@ pub fn put_pair(out: &mut [u8], at: usize, a: u32, b: u32) -> usize
     requires { Fits at (pair_text a b) out.old }
     ensures { Written at (pair_text a b) out.old out.new result }
 {
-    let second_at = put_behind(out, at, 32, a);
-    put_behind(out, second_at, 58, b)
+    let second_at = put_behind(out, at, b' ', a);
+    put_behind(out, second_at, b':', b)
 }
 
 fn put_pairs(out: &mut [u8], at: usize, ns: &[u32]) -> usize
     requires { Fits at (paired ns.now) out.old }
     ensures { Written at (paired ns.now) out.old out.new result }
 {
-    let n = ns.len() / 2;
     let mut end = at;
-    let mut i = 0;
-    while i < n {
+    for i in 0..ns.len() / 2 {
         end = put_pair(out, end, ns[2 * i], ns[2 * i + 1]);
-        i += 1;
     }
     end
 }

@@ -5,7 +5,7 @@ ghost use Rattle.report.specs.Report.{Fits, Written, paired, pair_text, pairs_te
 
 use super::lines;
 
-// Where the line of open sections ends, and whether it names none.
+// Where the line of open sections ends, and whether it names none: no Option, since it ends somewhere either way.
 #[derive(Clone, Copy)]
 pub struct Opened {
     pub end: usize,
@@ -18,12 +18,9 @@ pub fn print_locals(out: &mut [u8], at: usize, word: &[u8], count: usize, locals
     ensures { Written at (locals_text word.now count locals.now) out.old out.new result }
 {
     let mut end = at;
-    let mut i = 0;
-    while i < count {
-        let from = 8 * i;
-        let to = from + 8;
-        end = lines::print_task(out, end, word, (i + 1) as u32, &locals[from..to]);
-        i += 1;
+    for i in 0..count {
+        let own = &locals[8 * i..8 * i + 8];
+        end = lines::print_task(out, end, word, (i + 1) as u32, own);
     }
     end
 }
@@ -33,12 +30,9 @@ pub fn print_places(out: &mut [u8], at: usize, tasks: &[u32], places: &[u32]) ->
     ensures { Written at (places_text tasks.now places.now) out.old out.new result }
 {
     let mut end = at;
-    let mut i = 0;
-    while i < tasks.len() {
-        let from = 2 * i;
-        let to = from + 2;
-        end = lines::print_task(out, end, b"place", tasks[i], &places[from..to]);
-        i += 1;
+    for (i, task) in tasks.iter().enumerate() {
+        let place = &places[2 * i..2 * i + 2];
+        end = lines::print_task(out, end, b"place", *task, place);
     }
     end
 }
@@ -59,10 +53,8 @@ fn put_open(out: &mut [u8], at: usize, tasks: &[u32], places: &[u32]) -> usize
     ensures { Written at (paired (open_pairs tasks.now places.now)) out.old out.new result }
 {
     let mut end = at;
-    let mut i = 0;
-    while i < tasks.len() {
-        end = put_if_open(out, end, tasks[i], places[2 * i], places[2 * i + 1]);
-        i += 1;
+    for (i, task) in tasks.iter().enumerate() {
+        end = put_if_open(out, end, *task, places[2 * i], places[2 * i + 1]);
     }
     end
 }

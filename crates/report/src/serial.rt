@@ -1,34 +1,15 @@
 // The plain run's lines, and whether it leaves the same.
 ghost use Rattle.std.specs.Prelude.{◌≡◌, ◌≤◌, length};
 ghost use Rattle.laws.specs.Choose.{choose};
-ghost use Rattle.line.specs.Line.{same_bytes as same_numbers};
 ghost use Rattle.report.specs.Report.{Fits, Written, is_serial, plain_text, serial_yes, serial_no};
 
 use super::{lines, scripts};
 
-fn same_numbers(a: &[u32], b: &[u32]) -> bool
-    ensures { result ≡ same_numbers a.now b.now }
-{
-    if a.len() != b.len() {
-        return false;
-    }
-    let mut i = 0;
-    while i < a.len() {
-        if a[i] != b[i] {
-            return false;
-        }
-        i += 1;
-    }
-    true
-}
-
+#[tactic(auto, using(laws::proofs::Choose::cases))]
 fn is_serial(cells: &[u32], locals: &[u32], plaincells: &[u32], plainlocals: &[u32]) -> bool
     ensures { result ≡ is_serial cells.now locals.now plaincells.now plainlocals.now }
 {
-    if same_numbers(cells, plaincells) {
-        return same_numbers(locals, plainlocals);
-    }
-    false
+    cells == plaincells && locals == plainlocals
 }
 
 fn print_serial(out: &mut [u8], at: usize, serial: bool) -> usize

@@ -4,6 +4,7 @@ pub mod Inheritance
 pub mod Traps
 pub mod Performed
 pub mod Refusals
+pub mod Refused
 pub mod Statuses
 pub mod Choosing
 pub mod Working

@@ -6,3 +6,5 @@ pub mod Calls
 pub mod Runs
 pub mod Promises
 pub mod Fits
+pub mod Status
+pub mod Found

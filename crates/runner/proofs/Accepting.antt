@@ -1,8 +1,7 @@
 -- What the executing half of the runner asks for, from a run that is not refused and from numbers of 32 bits.
-use Rattle.std.proofs.Common.{◌≡◌, ℕ, zero, suc, pred, ◌+◌, ◌*◌, ◌/◌, ◌<◌, ◌≤◌, Bool, true, eqb, leb, List, [], ◌∷◌, length, get_or, sym, refl, subst, arith, eqb-true, le-leb, leb-true}
-use native.Mathlib.Decide.{dec_lt}
-use lib.ListN.{get_or-eq_default}
+use Rattle.std.proofs.Common.{◌≡◌, ℕ, zero, suc, pred, ◌+◌, ◌*◌, ◌/◌, ◌<◌, ◌≤◌, Bool, true, eqb, leb, List, [], ◌∷◌, length, get_or, refl, subst, arith, eqb-true, le-leb, leb-true}
 use Rattle.laws.specs.Choose.{choose, ◌and◌}
+use Rattle.laws.specs.Rows.{tabulate}
 use Rattle.laws.proofs.Choose.{choose_cases, and_both, both_and}
 use Rattle.laws.proofs.All.{all_at, all_of}
 use Rattle.words.proofs.WordsInBytes.{Words}
@@ -19,13 +18,13 @@ use Rattle.sections.specs.Scripts.Step.{NoStep}
 use Rattle.sections.specs.Run.{Event}
 use Rattle.sections.specs.Run.Event.{NoEvent}
 use Rattle.sections.specs.Refusals.{Input, each_script, each_section, each_event, limits_fit, steps_fit, one_script_each, is_event, is_guard, is_ready, is_allowed, refusal, event_fits, input_fits}
-use Rattle.encoding.specs.declared.Row.{Row}
-use Rattle.encoding.specs.Rows.{row_at, rows_of, no_row, begins_script, begins_section, section_of, sections_from, no_section, script_of, scripts_from, scripts_of}
+use Rattle.encoding.specs.declared.rows.Row.{Row}
+use Rattle.encoding.specs.declared.rows.Row.TheVariants.{Script as BeginsScript, Section as BeginsSection, Step as Steps}
+use Rattle.encoding.specs.Rows.{row_in, row_at, rows_of, sections_from, no_section, scripts_from, scripts_of}
 use Rattle.encoding.specs.Events.{call_of, event_size, event_at, events_from, events_of}
 use Rattle.encoding.specs.Laid.{reaches}
 use Rattle.runner.specs.State.{Lent}
 use Rattle.runner.specs.Turns.{Stepped, is_run}
-use Rattle.encoding.proofs.Scripts.{length_rows, row_read}
 use Rattle.runner.proofs.Allowing.{step_reaches, event_run}
 
 -- ---- the tests that are passed
@@ -121,14 +120,28 @@ module _ (ns ids : List ℕ) (m : Memory) where
 
 -- ---- numbers of 32 bits
 
--- a row holds words, as no row does
-rows_words : (ns : List ℕ) → Words ns → (r : ℕ) → (get_or (rows_of ns) r no_row).c < 4294967296
-unfolding row_at
-rows_words ns h r =
-    elim (dec_lt r (length ns / 4)) [
-      | yes l ↦ subst (λ (x : Row). x.c < 4294967296) (sym (row_read ns r l)) (h (4 * r + 3))
-      | no n ↦ subst (λ (x : Row). x.c < 4294967296) (sym (get_or-eq_default (rows_of ns) no_row (omega (arith, length_rows ns)))) (omega arith)
-    ]
+-- a section's row holds a word
+abbrev TimedRow : Row → Type 0
+TimedRow (BeginsScript task) = Unit {0}
+TimedRow (BeginsSection id options timeout) = timeout < 4294967296
+TimedRow (Steps step) = Unit {0}
+
+timed_row : (kind a b c : ℕ) → c < 4294967296 → TimedRow (row_in kind a b c)
+unfolding row_in
+timed_row kind a b c h = choose_cases TimedRow (eqb kind 1) _ _ (λ e. tt) (λ e. choose_cases TimedRow (eqb kind 2) _ _ (λ f. h) (λ f. tt))
+
+abbrev TimedRows : List Row → Type 0
+TimedRows [] = Unit {0}
+TimedRows (r ∷ rs) = TimedRow r × TimedRows rs
+
+all_tabulated : (n : ℕ) (f : ℕ → Row) → ((i : ℕ) → TimedRow (f i)) → TimedRows (tabulate n f)
+unfolding tabulate
+all_tabulated zero f h = tt
+all_tabulated (suc n) f h = (h 0, all_tabulated n (λ i. f (suc i)) (λ i. h (suc i)))
+
+rows_timed : (ns : List ℕ) → Words ns → TimedRows (rows_of ns)
+unfolding rows_of row_at
+rows_timed ns h = all_tabulated (length ns / 4) _ (λ r. timed_row _ _ _ _ (h (4 * r + 3)))
 
 each_cons : {A : Type 0} (P : A → Type 0) (d x : A) (xs : List A) → P x → ((k : ℕ) → P (get_or xs k d)) → (k : ℕ) → P (get_or (x ∷ xs) k d)
 each_cons P d x xs first later zero = first
@@ -137,29 +150,24 @@ each_cons P d x xs first later (suc k) = later k
 abbrev Timed : List Section → Type 0
 Timed sections = (k : ℕ) → (get_or sections k no_section).timeout < 4294967296
 
-timed_sections : (rs : List Row) → ((r : ℕ) → (get_or rs r no_row).c < 4294967296) → Timed (sections_from rs)
+timed_sections : (rs : List Row) → TimedRows rs → Timed (sections_from rs)
 unfolding sections_from
 timed_sections [] h = λ k. omega arith
-timed_sections (r ∷ rs) h =
-    let later = timed_sections rs (λ k. h (suc k)) in
-    choose_cases Timed (begins_script r) _ _ (λ e k. omega arith)
-    (λ e.
-    choose_cases Timed (begins_section r) _ _
-    (λ f. each_cons (λ (x : Section). x.timeout < 4294967296) no_section (section_of r rs) (sections_from rs) (h 0) later)
-    (λ f. later))
+timed_sections (BeginsScript task ∷ rs) h = λ k. omega arith
+timed_sections (BeginsSection id options timeout ∷ rs) h =
+    each_cons (λ (x : Section). x.timeout < 4294967296) no_section _ (sections_from rs) h.0 (timed_sections rs h.1)
+timed_sections (Steps step ∷ rs) h = timed_sections rs h.1
 
 abbrev AllTimed : List Script → Type 0
 AllTimed scripts = (i : ℕ) → Timed (script_at scripts i).sections
 
-timed_scripts : (rs : List Row) → ((r : ℕ) → (get_or rs r no_row).c < 4294967296) → AllTimed (scripts_from rs)
+timed_scripts : (rs : List Row) → TimedRows rs → AllTimed (scripts_from rs)
 unfolding scripts_from
 timed_scripts [] h = λ i k. omega arith
-timed_scripts (r ∷ rs) h =
-    let later = timed_scripts rs (λ k. h (suc k)) in
-    choose_cases AllTimed (begins_script r) _ _
-    (λ e. each_cons (λ (x : Script). Timed x.sections) (record { task = 0; sections = [] }) (script_of r rs) (scripts_from rs)
-    (timed_sections rs (λ k. h (suc k))) later)
-    (λ e. later)
+timed_scripts (BeginsScript task ∷ rs) h =
+    each_cons (λ (x : Script). Timed x.sections) (record { task = 0; sections = [] }) _ (scripts_from rs) (timed_sections rs h.1) (timed_scripts rs h.1)
+timed_scripts (BeginsSection id options timeout ∷ rs) h = timed_scripts rs h.1
+timed_scripts (Steps step ∷ rs) h = timed_scripts rs h.1
 
 module _ (ns : List ℕ) (h : Words ns) where
   word : (k : ℕ) → leb (get_or ns k 0) max_number ≡ true
@@ -204,7 +212,7 @@ inputs_fit ns ids m es h l =
     both_and
     (all_of (length (scripts_of ns)) _
     (λ i a. all_of (length (script_at (scripts_of ns) i).sections) _
-    (λ k b. le-leb (section_at (script_at (scripts_of ns) i) k).timeout max_number (omega (arith, timed_scripts (rows_of ns) (rows_words ns h) i k)))))
+    (λ k b. le-leb (section_at (script_at (scripts_of ns) i) k).timeout max_number (omega (arith, timed_scripts (rows_of ns) (rows_timed ns h) i k)))))
     (all_of (length (events_of es)) _ (λ k a. events_fit_lem 0 es l k))
 
 events_from_lem : (skip : ℕ) (ns : List ℕ) → length (events_from skip ns) ≤ length ns

@@ -1,7 +1,7 @@
 -- What a turn does to a whole state in lent bytes and numbers.
-use Rattle.std.proofs.Common.{◌≡◌, ℕ, pred, ◌+◌, ◌*◌, ◌<◌, ◌≤◌, true, eqb, leb, List, length, get_or, drop, set, sym, refl, ap, ◌∙◌, subst, ap₂, arith, leb-false, leb-true}
-use native.Mathlib.Decide.{dec_lt}
+use Rattle.std.proofs.Common.{◌≡◌, Some, ℕ, pred, ◌+◌, ◌*◌, ◌<◌, ◌≤◌, true, eqb, leb, List, length, get_or, set, sym, refl, ap, ◌∙◌, subst, ap₂, arith, leb-false, leb-true}
 use borrow.Author.Tests.{eqb-false}
+use Rattle.std.specs.Prelude.{Option}
 use Rattle.laws.specs.Choose.{◌or◌}
 use Rattle.laws.proofs.Choose.{choose_cases}
 use Rattle.rules.specs.declared.Call.{Call}
@@ -11,11 +11,13 @@ use Rattle.sections.specs.Scripts.{Step, Section, Script, Memory, script_at, ind
 use Rattle.sections.specs.Scripts.Step.{NoStep}
 use Rattle.sections.specs.Run.{Event, Place, at, State, place_at, moved, called, ask, Act, act_of, acted, event_of}
 use Rattle.sections.specs.Run.Act.{Nothing, Calls, Steps}
-use Rattle.sections.specs.Run.Event.{Turn, Other}
+use Rattle.sections.specs.Run.Event.{Turn, Other, NoEvent}
 use Rattle.runner.specs.declared.turns.Act.{Act as Doing}
 use Rattle.sections.proofs.Indices.{index_task}
 use Rattle.sections.proofs.Events.{not_second}
-use Rattle.encoding.specs.Rows.{rows_of, sections_from, scripts_of, no_section, ScriptRow}
+use Rattle.encoding.specs.declared.scripts.Script.{Script as ScriptFound}
+use Rattle.encoding.specs.Rows.{scripts_of, no_section}
+use Rattle.encoding.specs.Left.{script_from, ScriptOf}
 use Rattle.encoding.specs.Laid.{memory, reaches, laid_places}
 use Rattle.runner.specs.State.{Holds}
 use Rattle.runner.specs.Turns.{act_from, act_reaches, doing_in, doing_at, Countable, Stepped, Stands, RoomToAct}
@@ -49,9 +51,9 @@ module _ (ns places₀ grants₀ : List ℕ) (s : State) (m cells locals places 
         }
 
     -- what is done for what an act is, is done for the act
-    pub acted_as : {a is : Doing} → a ≡ is → {m' cells' locals' places' grants' : List ℕ}
+    pub acted_as : {a is : Option Doing} → a ≡ is → {m' cells' locals' places' grants' : List ℕ}
         → After (act_from is) m' cells' locals' places' grants' → After (act_from a) m' cells' locals' places' grants'
-    acted_as e {m'} {cells'} {locals'} {places'} {grants'} d = subst (λ (x : Doing). After (act_from x) m' cells' locals' places' grants') (sym e) d
+    acted_as e {m'} {cells'} {locals'} {places'} {grants'} d = subst (λ (x : Option Doing). After (act_from x) m' cells' locals' places' grants') (sym e) d
 
 -- ---- an event
 
@@ -61,6 +63,11 @@ module _ (scripts : List Script) (places₀ grants₀ : List ℕ) (s : State) wh
   event_as e {m} {cells} {locals} {places} {grants} d =
       subst (λ (x : Event). Stands places₀ grants₀ (event_of scripts s x) m cells locals places grants) (sym e) d
 
+  pub event_none : {m cells locals places grants : List ℕ} → Stands places₀ grants₀ s m cells locals places grants
+      → Stands places₀ grants₀ (event_of scripts s NoEvent) m cells locals places grants
+  unfolding event_of
+  event_none S = S
+
   pub event_called : {m cells locals places grants : List ℕ} → Stands places₀ grants₀ s m cells locals places grants → (r : Request) {m' places' grants' : List
       ℕ}
       → Holds places₀ grants₀ (called scripts s r) m' places' grants' → Stands places₀ grants₀ (event_of scripts s (Other r)) m' cells locals places' grants'
@@ -69,36 +76,26 @@ module _ (scripts : List Script) (places₀ grants₀ : List ℕ) (s : State) wh
 
 -- ---- a turn's script
 
-module _ (ns : List ℕ) (q i r : ℕ) (F : ScriptRow (rows_of ns) q i r) (has : index_of q (scripts_of ns) < length (scripts_of ns)) where
-  pub turn_row : r < length (rows_of ns)
-  turn_row =
-      elim (dec_lt r (length (rows_of ns))) [
-        | yes h ↦ h
-        | no n ↦ absurd (omega (arith, F.none (omega arith), F.index))
-      ]
-
-  pub turn_index : i < length (scripts_of ns)
-  turn_index = omega (arith, F.index)
-
+module _ (ns : List ℕ) (q i : ℕ) (found : ScriptFound) (F : ScriptOf (scripts_of ns) q (Some (i, found))) where
   pub turn_task : (script_at (scripts_of ns) i).task ≡ q
-  turn_task = ap (λ (k : ℕ). (script_at (scripts_of ns) k).task) F.index ∙ index_task q (scripts_of ns) has
+  turn_task = ap (λ (k : ℕ). (script_at (scripts_of ns) k).task) F.0 ∙ index_task q (scripts_of ns) (omega (arith, F.0, F.1))
 
   abbrev sections : List Section
-  sections = sections_from (drop (r + 1) (rows_of ns))
+  sections = (script_from found).sections
 
   pub turn_sections : (script_at (scripts_of ns) i).sections ≡ sections
-  turn_sections = ap (λ (x : Script). x.sections) (F.found turn_row).1
+  turn_sections = ap (λ (x : Script). x.sections) F.2
 
   module _ (n : ℕ) (St : Stepped ns n) where
     pub turn_countable : Countable sections
-    turn_countable = subst Countable turn_sections (St.count i turn_index)
+    turn_countable = subst Countable turn_sections (St.count i F.1)
 
     step_reaches : (k j : ℕ) → k < length sections → j < length (get_or sections k no_section).steps → reaches n (get_or (get_or sections k no_section).steps j
         NoStep) ≡ true
     step_reaches =
         subst
         (λ (x : List Section). (k j : ℕ) → k < length x → j < length (get_or x k no_section).steps → reaches n (get_or (get_or x k no_section).steps j NoStep) ≡ true)
-        turn_sections (λ k j h l. St.reach i k j turn_index h l)
+        turn_sections (λ k j h l. St.reach i k j F.1 h l)
 
     pub turn_reaches : (t : Tables) (p : Place) → act_reaches n (doing_at t q sections p) ≡ true
     unfolding doing_at doing_in
@@ -137,11 +134,11 @@ module _ (ns : List ℕ) (q i r : ℕ) (F : ScriptRow (rows_of ns) q i r) (has :
 
   module _ (s : State) {a : Act} (e : a ≡ act_of (scripts_of ns) s i) where
     pub turn_room : RoomToAct (scripts_of ns) s (index_of q (scripts_of ns)) (act_of (scripts_of ns) s (index_of q (scripts_of ns))) → RoomToAct (scripts_of ns) s i a
-    turn_room room call p z = subst (λ (k : ℕ). RoomToAct (scripts_of ns) s k (act_of (scripts_of ns) s k)) (sym F.index) room call p (sym e ∙ z)
+    turn_room room call p z = subst (λ (k : ℕ). RoomToAct (scripts_of ns) s k (act_of (scripts_of ns) s k)) (sym F.0) room call p (sym e ∙ z)
 
     pub turn_event : {places₀ grants₀ m cells locals places grants : List ℕ} → Stands places₀ grants₀ (acted (scripts_of ns) s i a) m cells locals places grants
         → Stands places₀ grants₀ (event_of (scripts_of ns) s (Turn q)) m cells locals places grants
     unfolding event_of
     turn_event {places₀} {grants₀} {m} {cells} {locals} {places} {grants} S =
         subst (λ (x : State). Stands places₀ grants₀ x m cells locals places grants)
-        (ap (λ (x : Act). acted (scripts_of ns) s i x) e ∙ ap (λ (k : ℕ). acted (scripts_of ns) s k (act_of (scripts_of ns) s k)) F.index) S
+        (ap (λ (x : Act). acted (scripts_of ns) s i x) e ∙ ap (λ (k : ℕ). acted (scripts_of ns) s k (act_of (scripts_of ns) s k)) F.0) S

@@ -5,11 +5,10 @@ use Rattle.laws.specs.Rows.{tabulate, rows}
 use Rattle.laws.proofs.Fit.{length_tabulate}
 use Rattle.sections.specs.Scripts.{Script, Grant, script_at}
 use Rattle.sections.specs.Run.{Place, at, place_after, grant_if}
-use Rattle.encoding.specs.declared.Row.{Row}
-use Rattle.encoding.specs.Rows.{rows_of, scripts_from, scripts_of}
+use Rattle.encoding.specs.Rows.{scripts_of}
 use Rattle.encoding.specs.Laid.{laid_places, laid_grants, Reports, Answers}
 use Rattle.runner.specs.State.{Room, Settles, places_after, grants_after}
-use Rattle.encoding.proofs.Scripts.{At, left_first, left_none, script_begins, script_passes}
+use Rattle.encoding.proofs.Found.{left_first, left_none}
 
 -- ---- all scripts
 
@@ -113,19 +112,13 @@ module _ (ns places₁ grants₁ : List ℕ) (answer : ℕ → ℕ) where
         grants = r.grants ∙ ap (λ (n : ℕ). laid_grants grants₀ (gs ++ grants_after n (scripts_of ns) answer ps)) e;
       }
 
--- ---- the walk over the rows
+-- ---- the walk over the scripts
 
-module _ (ns : List ℕ) (r i : ℕ) (left : scripts_from (drop r (rows_of ns)) ≡ drop i (scripts_of ns)) where
-  module _ (row : Row) (at_row : At (rows_of ns) r row) where
-    pub script_next : row.kind ≡ 1
-        → (i < length (scripts_of ns)) × ((script_at (scripts_of ns) i).task ≡ row.a) × (scripts_from (drop (r + 1) (rows_of ns)) ≡ drop (i + 1) (scripts_of ns))
-    script_next k =
-        let e = left_first (record { task = 0; sections = [] }) (scripts_of ns) i (sym left ∙ script_begins (rows_of ns) r row at_row k) in
-        (e.0, ap (λ (s : Script). s.task) e.1, sym e.2)
+module _ (scripts left : List Script) (i : ℕ) (e : left ≡ drop i scripts) where
+  pub script_next : {s : Script} {later : List Script} → left ≡ s ∷ later → (i < length scripts) × ((script_at scripts i).task ≡ s.task) × (later ≡ drop (i + 1) scripts)
+  script_next h =
+      let f = left_first (record { task = 0; sections = [] }) scripts i (sym e ∙ h) in
+      (f.0, ap (λ (s : Script). s.task) f.1, sym f.2)
 
-    pub script_none : (row.kind ≡ 1 → ⊥) → scripts_from (drop (r + 1) (rows_of ns)) ≡ drop i (scripts_of ns)
-    script_none k = sym (script_passes (rows_of ns) r row at_row k) ∙ left
-
-  pub scripts_all : drop r (rows_of ns) ≡ [] → length (scripts_of ns) ≤ i
-  unfolding scripts_from
-  scripts_all e = left_none (record { task = 0; sections = [] }) (scripts_of ns) i (sym left ∙ ap scripts_from e)
+  pub scripts_all : left ≡ [] → length scripts ≤ i
+  scripts_all h = left_none (record { task = 0; sections = [] }) scripts i (sym e ∙ h)

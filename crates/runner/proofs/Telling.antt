@@ -1,5 +1,5 @@
 -- What a call says to a task's obtain, by the flags of who waited before it and the tables after it.
-use Rattle.std.proofs.Common.{◌≡◌, ℕ, pred, ◌<◌, ◌≤◌, Bool, true, false, eqb, List, [], length, get_or, sym, ap, ◌∙◌, arith}
+use Rattle.std.proofs.Common.{◌≡◌, ℕ, pred, ◌<◌, ◌≤◌, Bool, true, false, eqb, List, [], length, get_or, sym, refl, ap, ◌∙◌, arith}
 use native.Mathlib.Decide.{dec_lt}
 use lib.ListN.{get_or-eq_default}
 use Rattle.laws.specs.Choose.{choose}
@@ -7,6 +7,9 @@ use Rattle.laws.proofs.Choose.{if_yes, if_no, if_eq, if_ne}
 use Rattle.laws.proofs.Mapped.{Filled}
 use Rattle.words.proofs.WordsInBytes.{Bytes}
 use Rattle.rules.specs.declared.Call.{Call}
+use Rattle.rules.specs.declared.Call.TheVariants.{Start, Create, Ident, Delete, Obtain, Release, Flush, Tick}
+use Rattle.rules.specs.declared.Wait.{Wait}
+use Rattle.rules.specs.Promises.{kind_of}
 use Rattle.rules.specs.declared.Task.{Task}
 use Rattle.rules.specs.Machine.{Tables, no_task, task_of, waits}
 use Rattle.rules.specs.Calls.{Outcome}
@@ -15,6 +18,19 @@ use Rattle.tables.proofs.LayoutRead.{laid_words, task_laid}
 use Rattle.sections.specs.Scripts.{Script, script_at}
 use Rattle.sections.specs.Run.{obtainer_of, said}
 use Rattle.runner.specs.State.{told}
+
+-- ---- who obtains
+
+pub none_obtains : (call : Call) → ((caller id : ℕ) (wait : Wait) → call ≡ Obtain caller id wait → ⊥) → 0 ≡ obtainer_of call
+unfolding kind_of choose
+none_obtains (Start slots) h = refl
+none_obtains (Create caller name count attributes maximum) h = refl
+none_obtains (Ident name) h = refl
+none_obtains (Delete caller id) h = refl
+none_obtains (Obtain caller id wait) h = absurd (h caller id wait refl)
+none_obtains (Release caller id) h = refl
+none_obtains (Flush caller id) h = refl
+none_obtains Tick h = refl
 
 -- ---- the flags
 

@@ -1,8 +1,10 @@
 -- What a turn does, by the rows of its script.
-use Rattle.std.proofs.Common.{◌≡◌, ℕ, zero, suc, pred, ◌+◌, ◌/◌, ◌<◌, ◌≤◌, true, false, List, [], ◌∷◌, length, get_or, drop, sym, refl, ap, ◌∙◌, ap₂, ⊎_elim, not-suc-le-zero, arith, length-drop, get_or-drop, le-leb}
-use Rattle.laws.specs.Choose.{◌or◌}
+use Rattle.std.proofs.Common.{◌≡◌, ℕ, suc, pred, ◌<◌, ◌≤◌, true, false, List, length, get_or, Some, None, sym, ap, ◌∙◌, ap₂, arith, le-leb}
+use native.Mathlib.Decide.{dec_lt}
 use borrow.Author.Tests.{lt-leb}
-use Rattle.laws.proofs.Choose.{if_yes, if_no, if_eq, if_ne, if_le, if_not_le, tested, or_first, or_second}
+use Rattle.std.specs.Prelude.{Option, option_map, slice_get}
+use Rattle.std.proofs.lemmas.Option.{slice_get_within, slice_get-get_or, get_or_from_slice_get}
+use Rattle.laws.proofs.Choose.{if_yes, if_no, if_eq, if_ne, if_le, if_not_le, or_first, or_second}
 use Rattle.rules.specs.declared.Call.TheVariants.{Obtain, Release}
 use Rattle.rules.specs.declared.Wait.{Wait}
 use Rattle.rules.specs.Machine.{Tables, task_of, waits}
@@ -11,18 +13,19 @@ use Rattle.sections.specs.Scripts.{Step, Section}
 use Rattle.sections.specs.Scripts.Step.{NoStep}
 use Rattle.sections.specs.Run.{Place, at, Act}
 use Rattle.sections.specs.Run.Act.{Nothing, Calls, Steps}
-use Rattle.encoding.specs.declared.Row.{Row}
-use Rattle.encoding.specs.Rows.{row_at, rows_of, no_row, begins_script, begins_section, step_of, steps_from, section_of, sections_from, no_section, SectionRow}
+use Rattle.encoding.specs.declared.rows.Step.{Step as RowStep}
+use Rattle.encoding.specs.declared.scripts.Section.{Section as SectionFound}
+use Rattle.encoding.specs.Rows.{step_of, no_section}
+use Rattle.encoding.specs.Left.{section_from}
 use Rattle.runner.specs.Turns.{doing_in, doing_at, Countable}
-use Rattle.encoding.proofs.Scripts.{length_rows, row_read}
 
 -- ---- the three things that a turn in a section does
 
 module _ (q : ℕ) (s : Section) (section position : ℕ) where
   pub in_obtain : position ≡ 0 → (wait : Wait) → wait ≡ wait_of s.options s.timeout
-      → Calls (Obtain q s.id wait) (at section 0) ≡ doing_in q s (at section position)
+      → Calls (Obtain q s.id wait) (at section position) ≡ doing_in q s (at section position)
   unfolding doing_in
-  in_obtain z wait w = ap₂ (λ (x : Wait) (n : ℕ). Calls (Obtain q s.id x) (at section n)) w (sym z) ∙ sym (if_eq position 0 _ _ z)
+  in_obtain z wait w = ap (λ (x : Wait). Calls (Obtain q s.id x) (at section position)) w ∙ sym (if_eq position 0 _ _ z)
 
   module _ (n : position ≡ 0 → ⊥) where
     pub in_release : length s.steps < position → (next : ℕ) → next ≡ suc section → Calls (Release q s.id) (at next 0) ≡ doing_in q s (at section position)
@@ -35,45 +38,6 @@ module _ (q : ℕ) (s : Section) (section position : ℕ) where
     unfolding doing_in
     in_step h step d next e =
         ap₂ (λ (x : Step) (k : ℕ). Steps x (at section k)) d e ∙ sym (if_ne position 0 _ _ n ∙ if_le position (length s.steps) _ _ h)
-
--- ---- a step's row
-
-abbrev StepRow : List Row → Type 0
-StepRow rs = (k : ℕ) → k < length (steps_from rs) → (k < length rs) × (get_or (steps_from rs) k NoStep ≡ step_of (get_or rs k no_row))
-
-step_row_next : (r : Row) (rs : List Row) → StepRow rs → (k : ℕ) → k < suc (length (steps_from rs))
-    → (k < suc (length rs)) × (get_or (step_of r ∷ steps_from rs) k NoStep ≡ step_of (get_or (r ∷ rs) k no_row))
-step_row_next r rs later zero l = (omega arith, refl)
-step_row_next r rs later (suc k) l = let n = later k (omega arith) in (omega (arith, n.0), n.1)
-
-step_row : (rs : List Row) → StepRow rs
-unfolding steps_from
-step_row [] k h = absurd (not-suc-le-zero h)
-step_row (r ∷ rs) k h =
-    ⊎_elim
-    (λ (t : (begins_script r or begins_section r) ≡ true).
-    let e : steps_from (r ∷ rs) ≡ [] = if_yes _ _ t in
-    absurd (omega (arith, ap length e)))
-    (λ (f : (begins_script r or begins_section r) ≡ false).
-    let e : steps_from (r ∷ rs) ≡ step_of r ∷ steps_from rs = if_no _ _ f in
-    let n = step_row_next r rs (λ k l. step_row rs k l) k (omega (arith, ap length e)) in
-    (n.0, ap (λ (ss : List Step). get_or ss k NoStep) e ∙ n.1))
-    (tested (begins_script r or begins_section r))
-
--- the step at position p of the section at row r is r + p
-module _ (ns : List ℕ) (r p : ℕ) (low : p ≡ 0 → ⊥) (h : p ≤ length (steps_from (drop (r + 1) (rows_of ns)))) where
-  found : (pred p < length (drop (r + 1) (rows_of ns))) × (get_or (steps_from (drop (r + 1) (rows_of ns))) (pred p) NoStep ≡ step_of (get_or (drop (r + 1) (rows_of ns))
-      (pred p) no_row))
-  found = step_row (drop (r + 1) (rows_of ns)) (pred p) (omega arith)
-
-  pub step_there : r + p < length ns / 4
-  step_there = omega (arith, found.0, length-drop (r + 1) (rows_of ns), length_rows ns)
-
-  pub step_is : (row : Row) → row ≡ row_at ns (r + p) → step_of row ≡ get_or (steps_from (drop (r + 1) (rows_of ns))) (pred p) NoStep
-  step_is row e =
-      ap step_of (e ∙ sym (row_read ns (r + p) step_there) ∙ ap (λ (k : ℕ). get_or (rows_of ns) k no_row) (omega arith) ∙ sym (get_or-drop (r + 1) (rows_of ns) (pred
-      p) no_row))
-      ∙ sym found.1
 
 -- ---- in which section, if any
 
@@ -93,23 +57,47 @@ module _ (t : Tables) (q : ℕ) (sections : List Section) (p : Place) where
       d ∙ ap (λ (x : Section). doing_in q x p) (sym e) ∙ sym (if_no _ _ (if_no _ _ w ∙ lt-leb (length sections) p.section h))
 
 -- the section found, and that 32 bits count it
-pub record Inside (ns : List ℕ) (from k r : ℕ) : Type 0 where
-  pub within : k < length (sections_from (drop from (rows_of ns)))
+pub record Inside (sections : List Section) (k : ℕ) (s : Section) : Type 0 where
+  pub within : k < length sections
   pub low : k < 4294967295
-  pub short : length (steps_from (drop (r + 1) (rows_of ns))) < 4294967295
-  pub is : get_or (sections_from (drop from (rows_of ns))) k no_section ≡ section_of (row_at ns r) (drop (r + 1) (rows_of ns))
+  pub short : length s.steps < 4294967295
+  pub is : get_or sections k no_section ≡ s
 
-pub inside : (ns : List ℕ) (from k r : ℕ) → SectionRow (rows_of ns) from k r → r < length ns / 4 → Countable (sections_from (drop from (rows_of ns))) → Inside ns
-    from k r
-inside ns from k r s h c =
-    let f = s.found (omega (arith, length_rows ns)) in
-    let e = f.1 ∙ ap (λ (row : Row). section_of row (drop (r + 1) (rows_of ns))) (row_read ns r h) in
-    record {
-      within = f.0;
-      low = omega (arith, f.0, c.few);
-      short = omega (arith, c.short k f.0, ap (λ (x : Section). length x.steps) e);
-      is = e;
-    }
+module _ (sections : List Section) (k : ℕ) (r : Option SectionFound) (found : option_map section_from r ≡ slice_get sections k) where
+  pub inside : (s : SectionFound) → r ≡ Some s → Countable sections → Inside sections k (section_from s)
+  inside s e c =
+      let here : slice_get sections k ≡ Some (section_from s) = sym found ∙ ap (option_map section_from) e in
+      let within = slice_get_within sections k (section_from s) here in
+      let is = get_or_from_slice_get sections k (section_from s) no_section here in
+      record {
+        within = within;
+        low = omega (arith, within, c.few);
+        short = omega (arith, c.short k within, ap (λ (x : Section). length x.steps) is);
+        is = is;
+      }
 
-pub outside : (ns : List ℕ) (from k r : ℕ) → SectionRow (rows_of ns) from k r → length ns / 4 ≤ r → length (sections_from (drop from (rows_of ns))) ≤ k
-outside ns from k r s h = s.none (omega (arith, length_rows ns))
+  pub outside : r ≡ None → length sections ≤ k
+  outside e =
+      elim (dec_lt k (length sections)) [
+        | yes h ↦
+            let here : ◌≡◌ {A = Option Section} None (Some (get_or sections k no_section)) =
+            sym (ap (option_map section_from) e) ∙ found ∙ slice_get-get_or sections k no_section h
+            in cc
+        | no n ↦ omega arith
+      ]
+
+-- ---- a step of a section
+
+module _ (steps : List Step) (k : ℕ) (r : Option (Option RowStep)) (found : option_map step_of r ≡ slice_get steps k) where
+  pub step_there : (s : Option RowStep) → r ≡ Some s → (k < length steps) × (step_of s ≡ get_or steps k NoStep)
+  step_there s e =
+      let here : slice_get steps k ≡ Some (step_of s) = sym found ∙ ap (option_map step_of) e in
+      (slice_get_within steps k (step_of s) here, sym (get_or_from_slice_get steps k (step_of s) NoStep here))
+
+  pub no_step : r ≡ None → length steps ≤ k
+  no_step e =
+      elim (dec_lt k (length steps)) [
+        | yes h ↦
+            let here : ◌≡◌ {A = Option Step} None (Some (get_or steps k NoStep)) = sym (ap (option_map step_of) e) ∙ found ∙ slice_get-get_or steps k NoStep h in cc
+        | no n ↦ omega arith
+      ]

@@ -1,5 +1,5 @@
 -- A turn: what it does by the rows of its script.
-use Rattle.std.specs.Prelude.{◌≡◌, ℕ, suc, pred, ◌<◌, Bool, true, false, leb, List, [], ◌∷◌, length, get_or, ◌==◌, nat_le, nat_lt, slice_index_or, slice_set}
+use Rattle.std.specs.Prelude.{◌≡◌, ℕ, suc, pred, ◌<◌, Bool, true, false, leb, List, [], ◌∷◌, length, get_or, ◌==◌, nat_le, nat_lt, slice_index_or, slice_set, Option, Some, None}
 use Rattle.laws.specs.Choose.{choose, ◌or◌}
 use Rattle.rules.specs.declared.Call.{Call}
 use Rattle.rules.specs.declared.Call.TheVariants.{Obtain, Release}
@@ -12,15 +12,15 @@ use Rattle.sections.specs.Run.{Event, Place, at, State, moved, called, ask, Act,
 use Rattle.sections.specs.Run.Act.{Nothing, Calls, Steps}
 use Rattle.sections.specs.Run.Event.{Turn, Other, NoEvent}
 use Rattle.runner.specs.declared.turns.Act.{Act as Doing}
-use Rattle.runner.specs.declared.turns.Act.TheVariants.{Nothing as DoesNothing, Calls as DoesCall, Steps as DoesStep}
+use Rattle.runner.specs.declared.turns.Act.TheVariants.{Calls as DoesCall, Steps as DoesStep}
 use Rattle.encoding.specs.Rows.{step_of, no_section, scripts_of}
-use Rattle.encoding.specs.Laid.{memory, reaches}
+use Rattle.encoding.specs.Laid.{place_of, memory, reaches}
 use Rattle.runner.specs.State.{answers_to, Holds, Room}
 
-abbrev pub act_from : Doing → Act
-act_from DoesNothing = Nothing
-act_from (DoesCall call section position) = Calls call (at section position)
-act_from (DoesStep row section position) = Steps (step_of row) (at section position)
+abbrev pub act_from : Option Doing → Act
+act_from None = Nothing
+act_from (Some (DoesCall call place)) = Calls call (place_of place)
+act_from (Some (DoesStep step place)) = Steps (step_of step) (place_of place)
 
 -- what its step goes by is there
 abbrev pub act_reaches : ℕ → Act → Bool

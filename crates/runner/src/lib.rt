@@ -6,6 +6,7 @@ mod settle;
 mod turns;
 
 ghost use Rattle.std.specs.Prelude.{◌≡◌, ℕ, List, [], length, replicate};
+ghost use Rattle.rules.specs.Status.{status};
 ghost use Rattle.tables.specs.Layout.{model_of};
 ghost use Rattle.calls.specs.Agreeing.{Agreeing};
 ghost use Rattle.sections.specs.Run.{at};
@@ -16,9 +17,10 @@ ghost use Rattle.runner.specs.Turns.{Stands};
 ghost use Rattle.refusals.specs.Defined.{input_of, refusal_where};
 ghost use Rattle.runner.specs.Reply.{ran_from, ran, run_reply};
 
-use rules::Answer;
+use rules::{Answer, Refusal};
+use tables::View;
 
-// A run on agreeing tables, from places at the start and no grant: why it is refused, or 0, and then the events are run.
+// A run on agreeing tables, from places at the start and no grant: where it is not refused, its events are run.
 fn run_agreeing(
     m: &mut [u8],
     scripts: &[u32],
@@ -28,23 +30,21 @@ fn run_agreeing(
     locals: &mut [u32],
     places: &mut [u32],
     grants: &mut [u32],
-) -> u32
+) -> Result<(), Refusal>
     requires { Agreeing m.old }
-    ensures status { result ≡ refusal_where (model_of m.old)
+    ensures status { status result ≡ refusal_where (model_of m.old)
         (input_of scripts.now ids.now cells.old locals.old) scripts.now events.now
         places.old }
     ensures done { (places₀ grants₀ : List ℕ) → places.old ≡ laid_places places₀
         (replicate (length (scripts_of scripts.now)) (at 0 0))
-        → grants.old ≡ laid_grants grants₀ [] → Stands places₀ grants₀ (ran_from result (model_of m.old)
+        → grants.old ≡ laid_grants grants₀ [] → Stands places₀ grants₀ (ran_from (status result) (model_of m.old)
         (input_of scripts.now ids.now cells.old locals.old) (events_of events.now))
         m.new cells.new locals.new places.new grants.new }
     ensures kept { Agreeing m.new }
 {
-    let status = refusals::refusal(m, scripts, events, ids, cells, locals, places);
-    if status == 0 {
-        running::run_events(m, scripts, events, cells, locals, places, grants);
-    }
-    status
+    refusals::refusal(View::new(m), scripts, events, ids, cells, locals, places)?;
+    running::run_events(m, scripts, events, cells, locals, places, grants);
+    Ok(())
 }
 
 // Runs the events on whatever is lent, or refuses them all before the first. The test for 25 is made once.
@@ -64,16 +64,16 @@ pub fn run(
 {
     encoding::outset::clear(scripts, places, grants);
     if !agreement::is_agreeing(m) {
-        return Answer {
-            status: rules::INTERNAL_ERROR,
-            value: 0,
-            next: 0,
-        };
+        return manager::internal_error();
     }
-    let status = run_agreeing(m, scripts, events, ids, cells, locals, places, grants);
+    let done = run_agreeing(m, scripts, events, ids, cells, locals, places, grants);
+    let status = match done {
+        Ok(()) => rules::SUCCESSFUL,
+        Err(refusal) => refusal.status(),
+    };
     Answer {
         status,
         value: 0,
-        next: lookup::next_task(m),
+        next: lookup::next_task(View::new(m)),
     }
 }

@@ -1,56 +1,49 @@
 // The events of a run, one after another.
-ghost use Rattle.std.specs.Prelude.{◌≡◌, ℕ, ◌<◌, ◌≤◌, true, List, length, slice_index};
+ghost use Rattle.std.specs.Prelude.{◌≡◌, ℕ, true, List, length};
 ghost use Rattle.calls.specs.Agreeing.{Agreeing};
-ghost use Rattle.sections.specs.Scripts.{index_of};
 ghost use Rattle.sections.specs.Run.{State, event_of, run_from};
 ghost use Rattle.sections.specs.Refusals.{each_event};
 ghost use Rattle.encoding.specs.Rows.{scripts_of};
-ghost use Rattle.encoding.specs.Events.{event_size, event_at, events_of};
+ghost use Rattle.encoding.specs.Events.{events_of};
+ghost use Rattle.encoding.specs.Kinds.{event_from};
 ghost use Rattle.runner.specs.State.{Lent};
 ghost use Rattle.runner.specs.Turns.{Stepped, Stands, RoomAt, RoomAlong, is_run};
 
 use super::{settle, turns};
-use encoding::events;
+use encoding::events::{Event, Events};
 
-// The event that the numbers begin with: a turn of a task that has a script, or a call by someone else.
-fn event(
+// A turn of a task that has a script, or a call by someone else.
+fn run_event(
     m: &mut [u8],
     scripts: &[u32],
-    e: &[u32],
+    event: Option<Event<'_>>,
     cells: &mut [u32],
     locals: &mut [u32],
     places: &mut [u32],
     grants: &mut [u32],
 )
     requires { Agreeing m.old × Lent scripts.now places.old grants.old × Stepped scripts.now (length cells.old) ×
-        (length locals.old ≡ 256) × (1 ≤ event_size e.now) × (slice_index e.now 0 ≡ 1
-        → index_of (slice_index e.now 1) (scripts_of scripts.now) < length (scripts_of scripts.now)) }
+        (length locals.old ≡ 256) × (is_run (scripts_of scripts.now) (event_from event) ≡ true) }
     ensures done { (places₀ grants₀ : List ℕ) (s : State) → Stands places₀ grants₀ s m.old cells.old
         locals.old places.old grants.old
         → length s.places ≡ length (scripts_of scripts.now)
-        → RoomAt (scripts_of scripts.now) s (event_at e.now)
-        → Stands places₀ grants₀ (event_of (scripts_of scripts.now) s (event_at e.now)) m.new cells.new
+        → RoomAt (scripts_of scripts.now) s (event_from event.entry)
+        → Stands places₀ grants₀ (event_of (scripts_of scripts.now) s (event_from event.entry)) m.new cells.new
         locals.new places.new grants.new }
     ensures kept { Agreeing m.new }
 {
-    if events::number_at(e, 0) == events::TURN {
-        turns::turn(
-            m,
-            scripts,
-            cells,
-            locals,
-            events::number_at(e, 1),
-            places,
-            grants,
-        );
+    let Some(event) = event else {
         return;
+    };
+    match event {
+        Event::Turn { task } => turns::turn(m, scripts, cells, locals, task, places, grants),
+        Event::Call { call, priorities } => {
+            settle::make_call(m, scripts, call, priorities, places, grants)
+        }
     }
-    let call = events::call_at(e);
-    let priorities = events::priorities_at(e);
-    settle::make_call(m, scripts, call, priorities, places, grants);
 }
 
-// All events. Each gets what the one before left.
+/// All events. Each gets what the one before left.
 pub fn run_events(
     m: &mut [u8],
     scripts: &[u32],
@@ -69,11 +62,7 @@ pub fn run_events(
         locals.new places.new grants.new }
     ensures kept { Agreeing m.new }
 {
-    let mut at = 0;
-    while at < events.len() {
-        let e = &events[at..];
-        let size = events::event_size(e);
-        event(m, scripts, e, cells, locals, places, grants);
-        at += size;
+    for event in Events::new(events) {
+        run_event(m, scripts, event, cells, locals, places, grants);
     }
 }

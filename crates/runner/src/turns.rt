@@ -1,92 +1,78 @@
-// A task's turn: what it does, by the rows of its script, and the place that it leads to.
-ghost use Rattle.std.specs.Prelude.{◌≡◌, ℕ, ◌+◌, ◌*◌, ◌/◌, ◌<◌, ◌≤◌, true, List, length, drop, slice_index, slice_set};
+// A task's turn: what it does, by its script, and the place that it leads to.
+ghost use Rattle.std.specs.Prelude.{◌≡◌, ℕ, ◌+◌, ◌*◌, ◌<◌, ◌≤◌, true, List, length, Some};
 ghost use Rattle.rules.specs.Machine.{Tables};
 ghost use Rattle.tables.specs.Layout.{tables_length, laid};
 ghost use Rattle.calls.specs.Agreeing.{Agreeing};
 ghost use Rattle.sections.specs.Scripts.{script_at, index_of, do_step};
-ghost use Rattle.sections.specs.Run.{Place, at, State, acted, act_of, event_of};
+ghost use Rattle.sections.specs.Run.{State, acted, act_of, event_of};
 ghost use Rattle.sections.specs.Run.Event.{Turn};
-ghost use Rattle.encoding.specs.Rows.{row_at, rows_of, step_of, section_of, steps_from, sections_from, scripts_of};
-ghost use Rattle.encoding.specs.Laid.{memory, reaches, laid_places};
+ghost use Rattle.encoding.specs.Rows.{step_of, scripts_of};
+ghost use Rattle.encoding.specs.Left.{section_from, script_from};
+ghost use Rattle.encoding.specs.Laid.{memory, reaches, place_of, PutsPlace};
 ghost use Rattle.runner.specs.State.{Lent};
 ghost use Rattle.runner.specs.Turns.{act_from, doing_in, doing_at, act_reaches, Countable, Stepped, CallsAt, Stands, RoomToAct};
 
 use super::settle;
-use encoding::{Row, memory, places, rows};
+use encoding::memory;
+use encoding::places::{self, Place};
+use encoding::rows::Step;
+use encoding::scripts::{self, Script, Section};
 use rules::Call;
 
-// Nothing, a call, or a step; then the script stands at that place.
+/// What a turn does: a call or a step. Then the script stands at the place.
 #[derive(Clone, Copy)]
 pub enum Act {
-    Nothing,
-    Calls {
-        call: Call,
-        section: u32,
-        position: u32,
-    },
-    Steps {
-        row: Row,
-        section: u32,
-        position: u32,
-    },
+    Calls { call: Call, place: Place },
+    Steps { step: Option<Step>, place: Place },
 }
 
-// In the section at row r: the obtain, one step, or the release.
-fn act_in(scripts: &[u32], r: usize, q: u32, section: u32, position: u32) -> Act
-    requires { r < length scripts.now / 4 }
-    ensures { section < 4294967295 → length (steps_from (drop (r + 1) (rows_of scripts.now))) < 4294967295
-        → act_from result ≡ doing_in q (section_of (row_at scripts.now r) (drop (r + 1) (rows_of scripts.now))) (at section position) }
+// In a section: the obtain, one step, or the release.
+fn act_in(section: Section<'_>, q: u32, place: Place) -> Act
+    ensures { place.section < 4294967295 → length (section_from section.entry).steps < 4294967295
+        → act_from (Some result) ≡ doing_in q (section_from section.entry) (place_of place) }
 {
-    let row = rows::row_at(scripts, r);
-    if position == 0 {
-        let wait = rules::wait_of(row.b, row.c);
-        return Act::Calls {
-            call: Call::Obtain {
-                caller: q,
-                id: row.a,
-                wait: wait,
-            },
-            section: section,
-            position: 0,
+    if place.position == 0 {
+        let wait = rules::wait_of(section.options, section.timeout);
+        let call = Call::Obtain {
+            caller: q,
+            id: section.id,
+            wait,
         };
+        return Act::Calls { call, place };
     }
-    let steps = rows::step_count(scripts, r + 1);
-    if steps < position as usize {
-        return Act::Calls {
-            call: Call::Release {
+    match section.step(place.position as usize - 1) {
+        Some(step) => {
+            let position = std::num::wrapping_add_u32(place.position, 1);
+            let place = Place { position, ..place };
+            Act::Steps { step, place }
+        }
+        None => {
+            let call = Call::Release {
                 caller: q,
-                id: row.a,
-            },
-            section: std::num::wrapping_add_u32(section, 1),
-            position: 0,
-        };
-    }
-    Act::Steps {
-        row: rows::row_at(scripts, r + position as usize),
-        section: section,
-        position: std::num::wrapping_add_u32(position, 1),
+                id: section.id,
+            };
+            let section = std::num::wrapping_add_u32(place.section, 1);
+            let place = Place {
+                section,
+                position: 0,
+            };
+            Act::Calls { call, place }
+        }
     }
 }
 
-// What a turn of task q does, whose sections stand from a row on and whose place is the i-th.
-fn act_of(m: &[u8], scripts: &[u32], from: usize, places: &[u32], i: usize, q: u32) -> Act
-    requires { (length m.now ≡ tables_length) × (1 ≤ q) × (q ≤ 32) × (2 * i + 1 < length places.now) }
-    ensures { (t : Tables) → m.now ≡ laid t → Countable (sections_from (drop from (rows_of scripts.now)))
-        → act_from result ≡ doing_at t q (sections_from (drop from (rows_of scripts.now)))
-        (at (slice_index places.now (2 * i)) (slice_index places.now (2 * i + 1))) }
+// What a turn of task q does by its script, from a place. Nothing while the task waits, or where its script has ended.
+fn act_of(m: &[u8], script: Script<'_>, q: u32, place: Place) -> Option<Act>
+    requires { (length m.now ≡ tables_length) × (1 ≤ q) × (q ≤ 32) }
+    ensures { (t : Tables) → m.now ≡ laid t → Countable (script_from script.entry).sections
+        → act_from result ≡ doing_at t q (script_from script.entry).sections (place_of place) }
 {
     let v = tables::load_task(m, q as usize - 1);
     if settle::is_waiting(v) {
-        return Act::Nothing;
+        return None;
     }
-    let at = 2 * i;
-    let section = places[at];
-    let r = rows::section_of(scripts, from, section as usize);
-    if rows::row_count(scripts) <= r {
-        return Act::Nothing;
-    }
-    let position = places[at + 1];
-    act_in(scripts, r, q, section, position)
+    let section = script.section(place.section as usize)?;
+    Some(act_in(section, q, place))
 }
 
 // The script moves on, and its task makes the call.
@@ -95,18 +81,17 @@ fn call_at(
     scripts: &[u32],
     i: usize,
     call: Call,
-    section: u32,
-    position: u32,
+    place: Place,
     places: &mut [u32],
     grants: &mut [u32],
 )
     requires { Agreeing m.old × Lent scripts.now places.old grants.old × (2 * i + 1 < length places.old) }
-    ensures done { CallsAt scripts.now i call (at section position) m.old places.old grants.old
+    ensures done { CallsAt scripts.now i call (place_of place) m.old places.old grants.old
         m.new places.new grants.new }
     ensures kept { Agreeing m.new }
 {
-    places::put_place(places, i, section, position);
-    settle::make_call(m, scripts, call, &scripts[..0], places, grants);
+    places::put_place(places, i, place);
+    settle::make_call(m, scripts, call, &[], places, grants);
 }
 
 // Task q takes a step, and its script moves on.
@@ -115,21 +100,19 @@ fn step_at(
     locals: &mut [u32],
     i: usize,
     q: u32,
-    row: Row,
-    section: u32,
-    position: u32,
+    step: Option<Step>,
+    place: Place,
     places: &mut [u32],
 )
-    requires { (1 ≤ q) × (q ≤ 32) × (length locals.old ≡ 256) × (reaches (length cells.old) (step_of row) ≡ true) × (2 * i + 1 < length places.old) }
-    ensures done { memory cells.new locals.new ≡ do_step q (step_of row) (memory cells.old locals.old) }
-    ensures moves { (ns : List ℕ) (ps : List Place) → places.old ≡ laid_places ns ps
-        → i < length ps → places.new ≡ laid_places ns (slice_set ps i (at section position)) }
+    requires { (1 ≤ q) × (q ≤ 32) × (length locals.old ≡ 256) × (reaches (length cells.old) (step_of step) ≡ true) × (2 * i + 1 < length places.old) }
+    ensures done { memory cells.new locals.new ≡ do_step q (step_of step) (memory cells.old locals.old) }
+    ensures moves { PutsPlace places.old i (place_of place) places.new }
 {
-    memory::do_step(cells, locals, q, row);
-    places::put_place(places, i, section, position);
+    memory::do_step(cells, locals, q, step);
+    places::put_place(places, i, place);
 }
 
-// Script i of task q does what its turn is to do.
+// Script i of task q does what its turn is to do. What is lent to be written stays apart: a struct of several such slices would not carry its writes back.
 fn do_act(
     m: &mut [u8],
     scripts: &[u32],
@@ -137,7 +120,7 @@ fn do_act(
     locals: &mut [u32],
     i: usize,
     q: u32,
-    a: Act,
+    a: Option<Act>,
     places: &mut [u32],
     grants: &mut [u32],
 )
@@ -151,18 +134,12 @@ fn do_act(
         grants.new }
     ensures kept { Agreeing m.new }
 {
-    match a {
-        Act::Nothing => {}
-        Act::Calls {
-            call,
-            section,
-            position,
-        } => call_at(m, scripts, i, call, section, position, places, grants),
-        Act::Steps {
-            row,
-            section,
-            position,
-        } => step_at(cells, locals, i, q, row, section, position, places),
+    let Some(act) = a else {
+        return;
+    };
+    match act {
+        Act::Calls { call, place } => call_at(m, scripts, i, call, place, places, grants),
+        Act::Steps { step, place } => step_at(cells, locals, i, q, step, place, places),
     }
 }
 
@@ -187,8 +164,9 @@ pub fn turn(
         places.new grants.new }
     ensures kept { Agreeing m.new }
 {
-    let found = rows::script_of(scripts, q);
-    let i = found.index;
-    let a = act_of(m, scripts, found.row + 1, places, i, q);
+    let Some((i, script)) = scripts::script_of(scripts, q) else {
+        return;
+    };
+    let a = act_of(m, script, q, places::place_at(places, i));
     do_act(m, scripts, cells, locals, i, q, a, places, grants);
 }

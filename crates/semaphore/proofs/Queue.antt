@@ -6,17 +6,19 @@ use Prim.Native.Nat.{ℕ, zero, suc, pred, ◌+◌, ◌-◌, ◌≤◌, ◌<◌}
 use native.Mathlib.Nat.{not-suc-le-zero, le_refl}
 use native.Mathlib.Numerals.{add-one, sub-one}
 use native.Mathlib.Omega.{arith}
-use lib.ListN.{length, get_or, set, take, length-append, length-take}
-use lib.Dec.{ltb}
-use lib.Seq.{take_all, take-suc}
-use borrow.Author.Tests.{ltb-true, ltb-false}
+use lib.ListN.{length, get_or, set, take, drop, length-append, length-take, length-drop}
+use Rattle.std.proofs.Math.Seq.{paste}
+use Rattle.std.proofs.lemmas.List.{append_assoc, set-append_right}
+use Rattle.std.proofs.lemmas.List.Edits.{paste_all}
+use lib.Seq.{take-suc}
 use Rattle.laws.specs.Choose.{choose}
 use Rattle.laws.proofs.Choose.{if_yes, if_no, choose_cases}
 use Rattle.laws.specs.Rows.{fit}
-use Rattle.laws.proofs.Fit.{take_fit, set_fit_next, set_fit_end}
+use Rattle.laws.proofs.Fit.{take_fit, set_fit_end}
 use Rattle.rules.specs.Machine.{Tables, task_of}
 use Rattle.rules.specs.Semaphore.{remove_at}
 use Rattle.rules.specs.Calls.{expires, still_waiting}
+use Rattle.semaphore.specs.declared.Kept.{Kept}
 use Rattle.semaphore.specs.Record.{keep, KeptIs}
 
 module _ {A : Type 0} where
@@ -48,35 +50,35 @@ length_remove place [] h = absurd (not-suc-le-zero h)
 length_remove zero (x ∷ xs) h = refl
 length_remove (suc place) (x ∷ xs) h = ap suc (length_remove place xs (omega arith))
 
--- those before the place stand as they stood, those behind it one place before
-remove_before : (place k : ℕ) (xs : List ℕ) → k < place → get_or (remove_at place xs) k 0 ≡ get_or xs k 0
-remove_before zero k xs h = absurd (not-suc-le-zero h)
-remove_before (suc place) k [] h = refl
-remove_before (suc place) zero (x ∷ xs) h = refl
-remove_before (suc place) (suc k) (x ∷ xs) h = remove_before place k xs (omega arith)
+-- one short of what it is filled up to
+fit_one : (n d : ℕ) (xs : List ℕ) → length xs + 1 ≡ n → fit n d xs ≡ xs ++ d ∷ []
+unfolding fit
+fit_one zero d xs e = absurd (omega arith)
+fit_one (suc zero) d [] e = refl
+fit_one (suc (suc n)) d [] e = absurd (omega arith)
+fit_one (suc n) d (x ∷ xs) e = ap (λ (r : List ℕ). x ∷ r) (fit_one n d xs (omega arith))
 
-remove_behind : (place k : ℕ) (xs : List ℕ) → place ≤ k → get_or (remove_at place xs) k 0 ≡ get_or xs (suc k) 0
-remove_behind zero k [] h = refl
-remove_behind zero k (x ∷ xs) h = refl
-remove_behind (suc place) k [] h = refl
-remove_behind (suc place) zero (x ∷ xs) h = absurd (not-suc-le-zero h)
-remove_behind (suc place) (suc k) (x ∷ xs) h = remove_behind place k xs (omega arith)
+set_only : (ys : List ℕ) (d : ℕ) → length ys ≡ 1 → set ys 0 d ≡ d ∷ []
+set_only [] d e = absurd (omega arith)
+set_only (y ∷ []) d e = refl
+set_only (y ∷ z ∷ ys) d e = absurd (omega arith)
 
--- the loop that moves those behind the place forward: one turn, how it ends
-module _ (queue out : List ℕ) (place k : ℕ) (len : length queue ≡ 32) (fits : place < 32) (filled : out ≡ fit 32 0 (take k (remove_at place queue))) where
-  moved : get_or queue (choose (ltb k place) k (k + 1)) 0 ≡ get_or (remove_at place queue) k 0
-  moved =
-      choose_cases (λ (from : ℕ). get_or queue from 0 ≡ get_or (remove_at place queue) k 0) (ltb k place) k (k + 1)
-      (λ e. sym (remove_before place k queue (ltb-true k place e))) (λ e. rw add-one (sym (remove_behind place k queue (ltb-false k place e))))
-
-  pub remove_next : (from : ℕ) → from ≡ choose (ltb k place) k (k + 1) → k < 31
-      → set out k (get_or queue from 0) ≡ fit 32 0 (take (k + 1) (remove_at place queue))
-  remove_next from e h =
-      let more : k < length (remove_at place queue) = omega (arith, length_remove place queue (omega arith)) in
-      rw (filled, e, moved, add-one) (set_fit_next 32 0 (remove_at place queue) k more)
-
-  pub remove_ends : 31 ≤ k → out ≡ fit 32 0 (remove_at place queue)
-  remove_ends h = filled ∙ ap (fit 32 0) (take_all k (remove_at place queue) (omega (arith, length_remove place queue (omega arith))))
+-- those behind the place copied one place forward, and 0 stored where the last was
+pub remove_copied : (queue moved : List ℕ) (place : ℕ) → length queue ≡ 32 → place < 32 → moved ≡ paste queue place (drop (place + 1) queue) (32 - (place + 1))
+    → set moved 31 0 ≡ fit 32 0 (remove_at place queue)
+remove_copied queue moved place len fits e =
+    let behind : List ℕ = drop (place + 1) queue in
+    let last : List ℕ = drop 31 queue in
+    let end : place + (32 - (place + 1)) ≡ 31 = omega arith in
+    let all : 32 - (place + 1) ≡ length behind = omega (arith, length-drop (place + 1) queue) in
+    let left : remove_at place queue ≡ take place queue ++ behind = rw add-one refl in
+    let few : length (take place queue ++ behind) ≡ 31 = omega (arith, length-append (take place queue) behind, length-take place queue, length-drop (place + 1) queue) in
+    let parts : moved ≡ (take place queue ++ behind) ++ last =
+    e ∙ paste_all queue place behind _ all ∙ ap (λ (k : ℕ). take place queue ++ (behind ++ drop k queue)) end
+    ∙ sym (append_assoc (take place queue) behind last) in
+    ap (λ (xs : List ℕ). set xs 31 0) parts ∙ set-append_right (take place queue ++ behind) last 31 31 0 few (omega arith)
+    ∙ ap (λ (ys : List ℕ). (take place queue ++ behind) ++ ys) (set_only last 0 (omega (arith, length-drop 31 queue)))
+    ∙ sym (fit_one 32 0 (take place queue ++ behind) (omega arith)) ∙ ap (fit 32 0) (sym left)
 
 -- ---- some are left out
 
@@ -113,49 +115,30 @@ keep_waiting t expired (q ∷ qs) h =
     let rest : keep expired qs ≡ still_waiting t qs = keep_waiting t expired qs (λ k l. h (suc k) (omega arith)) in
     λ i. choose (h 0 (omega arith) i) (rest i) (q ∷ rest i)
 
--- the first k of the queue are passed, and the n of them that still wait are in `out`
-pub record Passed (expired : List Bool) (queue out : List ℕ) (n k : ℕ) : Type 0 where
-  pub count : n ≡ length (keep expired (take k queue))
-  pub filled : out ≡ fit 32 0 (keep expired (take k queue))
+-- the loop that passes those of the queue, one after another, and keeps those that still wait
+module _ (expired : List Bool) (queue : List ℕ) (k : ℕ) where
+  pub keep_few : length (keep expired (take k queue)) ≤ k
+  keep_few = omega (arith, length_keep expired (take k queue), length-take k queue)
 
-pub passed_none : (expired : List Bool) (queue : List ℕ) → Passed expired queue (fit 32 0 []) 0 0
-unfolding keep
-passed_none expired queue = record { count = refl; filled = refl }
-
-module _ {expired : List Bool} {queue out : List ℕ} {n k : ℕ} (passed : Passed expired queue out n k) where
-  pub passed_few : n ≤ k
-  passed_few = omega (arith, passed.count, length_keep expired (take k queue), length-take k queue)
-
-  one_more : k < length queue
+  keep_next : k < length queue
       → keep expired (take (k + 1) queue)
       ≡ choose (get_or expired (get_or queue k 0 - 1) false) (keep expired (take k queue)) (keep expired (take k queue) ++ get_or queue k 0 ∷ [])
-  one_more h =
+  keep_next h =
       rw add-one
       (ap (keep expired) (take-suc queue k 0 h) ∙ keep_append expired (take k queue) (get_or queue k 0) ∙ rw sub-one refl)
 
-  pub passed_gone : k < length queue → get_or expired (get_or queue k 0 - 1) false ≡ true → Passed expired queue out n (k + 1)
-  passed_gone h e =
-      let same : keep expired (take (k + 1) queue) ≡ keep expired (take k queue) = one_more h ∙ if_yes _ _ e in
-      record { count = rw same passed.count; filled = rw same passed.filled }
+  module _ (r : Kept) (here : KeptIs r (keep expired (take k queue))) (h : k < length queue) where
+    pub kept_without : get_or expired (get_or queue k 0 - 1) false ≡ true → KeptIs r (keep expired (take (k + 1) queue))
+    kept_without e = rw (keep_next h ∙ if_yes _ _ e) here
 
-  pub passed_stays : k < length queue → n < 32 → get_or expired (get_or queue k 0 - 1) false ≡ false
-      → Passed expired queue (set out n (get_or queue k 0)) (n + 1) (k + 1)
-  passed_stays h few e =
-      let more : keep expired (take (k + 1) queue) ≡ keep expired (take k queue) ++ get_or queue k 0 ∷ [] = one_more h ∙ if_no _ _ e in
-      record {
-        count = rw (more, length-append) (omega (arith, passed.count));
-        filled =
-            rw (more, passed.filled, passed.count)
-            (set_fit_end 32 0 (keep expired (take k queue)) (get_or queue k 0) (omega (arith, passed.count)));
-      }
-
-  -- all are passed
-  pub passed_all : {waiters : ℕ} → k ≤ waiters → waiters ≤ k → waiters ≤ 32 → KeptIs (record { waiters = n; tasks = out }) (keep expired (take waiters queue))
-  passed_all {waiters} h l few =
-      let e : k ≡ waiters = omega arith in
-      let q : keep expired (take k queue) ≡ keep expired (take waiters queue) = ap (λ (j : ℕ). keep expired (take j queue)) e in
-      record {
-        few = omega (arith, length_keep expired (take waiters queue), length-take waiters queue);
-        waiters = passed.count ∙ ap length q;
-        tasks = passed.filled ∙ ap (fit 32 0) q;
-      }
+    pub kept_with : length queue ≡ 32 → get_or expired (get_or queue k 0 - 1) false ≡ false
+        → KeptIs (record { waiters = r.waiters + 1; tasks = set r.tasks r.waiters (get_or queue k 0) }) (keep expired (take (k + 1) queue))
+    kept_with len e =
+        let all : List ℕ = keep expired (take k queue) in
+        let more : length (all ++ get_or queue k 0 ∷ []) ≡ length all + 1 = length-append all (get_or queue k 0 ∷ []) in
+        rw (keep_next h ∙ if_no _ _ e)
+        (record {
+          few = omega (arith, keep_few);
+          waiters = omega (arith, here.waiters);
+          tasks = rw (here.tasks, here.waiters) (set_fit_end 32 0 all (get_or queue k 0) (omega (arith, keep_few)));
+        })

@@ -5,10 +5,9 @@ use mathlib.Core.List.{List, [], ◌∷◌, ◌++◌}
 use Prim.Native.Nat.{ℕ, suc, ◌+◌, ◌-◌, ◌≤◌, ◌<◌}
 use native.Mathlib.Omega.{arith}
 use lib.ListN.{length, get_or, set, take, length-take, length-append}
-use lib.Dec.{eqb}
-use borrow.Author.Tests.{eq-eqb, le-leb, lt-leb}
+use borrow.Author.Tests.{le-leb, lt-leb}
 use Rattle.laws.specs.Choose.{◌and◌, isnt}
-use Rattle.laws.proofs.Choose.{if_yes, if_no, if_le, if_not_le, if_eq, if_ne, choose_same, both_and, and_both, false_isnt}
+use Rattle.laws.proofs.Choose.{if_yes, if_no, if_le, if_not_le, if_eq, if_ne, both_and, and_both, false_isnt}
 use Rattle.laws.specs.Rows.{fit}
 use Rattle.laws.proofs.Fit.{length_fit, set_fit_end}
 use Rattle.rules.specs.declared.Wait.{Wait}
@@ -16,15 +15,27 @@ use Rattle.rules.specs.Machine.{Slot}
 use Rattle.rules.specs.Numbers.{is_binary}
 use Rattle.rules.specs.Semaphore.{remove_at, requeued, owned_by, polls, take_step, pass_step, give_step}
 use Rattle.rules.specs.Semaphore as rules
-use Rattle.rules.specs.Calls.{new_semaphore}
+use Rattle.rules.specs.declared.refusal.Refusal.{Refusal}
+use Rattle.rules.specs.declared.refusal.Refusal.TheVariants.{Unsatisfied, NotOwnerOfResource}
+use Rattle.std.specs.Prelude.{Result, Ok, Err, Some, None}
+use lib.Seq.{get_or-take}
 use Rattle.semaphore.specs.declared.Semaphore.{Semaphore}
+use Rattle.semaphore.specs.declared.Kept.{Kept}
+use Rattle.semaphore.specs.declared.Taken.{Taken}
 use Rattle.semaphore.specs.declared.Given.{Given}
-use Rattle.semaphore.specs.Record.{slot_from, record_of, with_count, with_queue, Padded, Stands, TakenIs, GivenIs}
+use Rattle.semaphore.specs.Record.{slot_from, Padded, Stands, Waits, TakenIs, GivenIs, keep, KeptIs, slot_keeping}
 use Rattle.semaphore.proofs.Queue.{held, remove_fit, length_remove}
 
 -- the tasks that wait
 abbrev pub waiters_of : Semaphore → List ℕ
 waiters_of s = take s.waiters s.queue
+
+-- the parts that a step changes
+abbrev pub with_count : Semaphore → ℕ → ℕ → ℕ → Semaphore
+with_count s count owner nest = record s { count = count; owner = owner; nest = nest }
+
+abbrev pub with_queue : Semaphore → ℕ → List ℕ → Semaphore
+with_queue s waiters queue = record s { waiters = waiters; queue = queue }
 
 -- a binary semaphore is the caller's
 abbrev pub held_by : Slot → ℕ → Bool
@@ -52,8 +63,10 @@ stands_queue s w queue qs e l few =
       padded = record { few = omega arith; filled = e ∙ ap (fit 32 0) (sym same) };
     }
 
-pub stands_as : {s made : Semaphore} {slot : Slot} → s ≡ made → Stands made slot → Stands s slot
-stands_as {slot = slot} e st = subst (λ (r : Semaphore). Stands r slot) (sym e) st
+-- the queue of those that still wait
+pub stands_kept : (s : Semaphore) (expired : List Bool) (kept : Kept) → KeptIs kept (keep expired (waiters_of s))
+    → Stands (with_queue s kept.waiters kept.tasks) (slot_keeping (slot_from s) expired)
+stands_kept s expired kept is = stands_queue s _ _ _ is.tasks is.waiters is.few
 
 -- ---- the queue of a padded record
 
@@ -85,159 +98,150 @@ module _ (s : Semaphore) (p : Padded s) where
       (omega (arith, length_queue))
       (omega (arith, length_queue, p.few))
 
--- ---- take
-
-pub took : {s : Semaphore} {status : ℕ} {slot : Slot} {rule : rules.Taken} → rule ≡ record { status = status; slot = slot } → Stands s slot
-    → TakenIs (record { status = status; semaphore = s }) rule
-took {s} e st =
-    record {
-      status = ap (λ (r : rules.Taken). r.status) (sym e);
-      semaphore = subst (λ (r : rules.Taken). Stands s r.slot) (sym e) st;
-    }
-
-module _ (s : Slot) (caller : ℕ) (wait : Wait) where
-  pub take_owned : 1 ≤ s.count → is_binary s.attributes ≡ true
-      → take_step s caller wait ≡ record { status = 0; slot = rules.counted s (s.count - 1) caller 1 s.queue }
-  unfolding take_step
-  take_owned h b =
-      if_le _ _ _ _ h
-      ∙ (λ i. record { status = 0; slot = rules.counted s (s.count - 1) (if_yes caller s.owner b i) (if_yes 1 s.nest b i) s.queue })
-
-  pub take_passed : 1 ≤ s.count → is_binary s.attributes ≡ false
-      → take_step s caller wait ≡ record { status = 0; slot = rules.counted s (s.count - 1) s.owner s.nest s.queue }
-  unfolding take_step
-  take_passed h b =
-      if_le _ _ _ _ h
-      ∙ (λ i. record { status = 0; slot = rules.counted s (s.count - 1) (if_no caller s.owner b i) (if_no 1 s.nest b i) s.queue })
-
-  module _ (none : s.count < 1) where
-    pub take_full : held_by s caller ≡ true → s.nest ≡ 4294967295 → take_step s caller wait ≡ record { status = 13; slot = s }
-    unfolding take_step
-    take_full own h = if_not_le _ _ _ _ none ∙ if_yes _ _ own ∙ if_eq _ _ _ _ h
-
-    pub take_nested : held_by s caller ≡ true → (s.nest ≡ 4294967295 → ⊥)
-        → take_step s caller wait ≡ record { status = 0; slot = rules.counted s s.count s.owner (s.nest + 1) s.queue }
-    unfolding take_step
-    take_nested own h = if_not_le _ _ _ _ none ∙ if_yes _ _ own ∙ if_ne _ _ _ _ h
-
-    pub take_refused : held_by s caller ≡ false → polls wait ≡ true → take_step s caller wait ≡ record { status = 13; slot = s }
-    unfolding take_step
-    take_refused own h = if_not_le _ _ _ _ none ∙ if_no _ _ own ∙ if_yes _ _ h
-
-    pub take_waits : held_by s caller ≡ false → polls wait ≡ false
-        → take_step s caller wait ≡ record { status = 100; slot = requeued s (s.queue ++ caller ∷ []) }
-    unfolding take_step
-    take_waits own h = if_not_le _ _ _ _ none ∙ if_no _ _ own ∙ if_no _ _ h
-
 -- ---- who holds a semaphore
 
 module _ (s : Slot) (caller : ℕ) where
-  pub unheld_class : is_binary s.attributes ≡ false → held_by s caller ≡ false
-  unheld_class b = if_no _ _ b
+  held_binary : held_by s caller ≡ true → is_binary s.attributes ≡ true
+  held_binary e = (and_both (is_binary s.attributes) (owned_by s caller) e).0
 
-  pub unheld_other : (s.owner ≡ caller → ⊥) → held_by s caller ≡ false
-  unheld_other h = ap (λ (t : Bool). is_binary s.attributes and t) (if_ne _ _ _ _ h) ∙ choose_same (is_binary s.attributes) false
+  held_owned : held_by s caller ≡ true → owned_by s caller ≡ true
+  held_owned e = (and_both (is_binary s.attributes) (owned_by s caller) e).1
 
-  pub unheld_nobody : caller ≡ 0 → held_by s caller ≡ false
-  unheld_nobody h =
-      ap (λ (t : Bool). is_binary s.attributes and eqb s.owner caller and t) (if_eq _ _ _ _ h)
-      ∙ ap (λ (t : Bool). is_binary s.attributes and t) (choose_same (eqb s.owner caller) false)
-      ∙ choose_same (is_binary s.attributes) false
+-- ---- take
 
-  pub held_owner : is_binary s.attributes ≡ true → s.owner ≡ caller → (caller ≡ 0 → ⊥) → held_by s caller ≡ true
-  held_owner b h n = both_and b (both_and (eq-eqb s.owner caller h) (if_ne _ _ _ _ n))
+module _ (s : Semaphore) (p : Padded s) (caller : ℕ) (wait : Wait) where
+  took : {r : Result Taken Refusal} {other : rules.Taken} → take_step (slot_from s) caller wait ≡ other → TakenIs s r other
+      → TakenIs s r (take_step (slot_from s) caller wait)
+  took {r} e t = subst (λ (o : rules.Taken). TakenIs s r o) (sym e) t
+
+  pub take_owned : 1 ≤ s.count → is_binary s.attributes ≡ true
+      → TakenIs s (Ok (record { semaphore = with_count s (s.count - 1) caller 1; waits = false })) (take_step (slot_from s) caller wait)
+  unfolding take_step
+  take_owned h b =
+      took
+      (if_le _ _ _ _ h
+      ∙ (λ i. record { status = 0; slot = rules.counted (slot_from s) (s.count - 1) (if_yes caller s.owner b i) (if_yes 1 s.nest b i) (waiters_of s) }))
+      (record { status = refl; semaphore = stands_count (stands_itself p) _ _ _ })
+
+  pub take_passed : 1 ≤ s.count → is_binary s.attributes ≡ false
+      → TakenIs s (Ok (record { semaphore = with_count s (s.count - 1) s.owner s.nest; waits = false })) (take_step (slot_from s) caller wait)
+  unfolding take_step
+  take_passed h b =
+      took
+      (if_le _ _ _ _ h
+      ∙ (λ i. record { status = 0; slot = rules.counted (slot_from s) (s.count - 1) (if_no caller s.owner b i) (if_no 1 s.nest b i) (waiters_of s) }))
+      (record { status = refl; semaphore = stands_count (stands_itself p) _ _ _ })
+
+  module _ (none : s.count < 1) where
+    pub take_full : held_by (slot_from s) caller ≡ true → s.nest ≡ 4294967295 → TakenIs s (Err Unsatisfied) (take_step (slot_from s) caller wait)
+    unfolding take_step
+    take_full own h = took (if_not_le _ _ _ _ none ∙ if_yes _ _ own ∙ if_eq _ _ _ _ h) (record { status = refl; semaphore = stands_itself p })
+
+    pub take_nested : held_by (slot_from s) caller ≡ true → (s.nest ≡ 4294967295 → ⊥)
+        → TakenIs s (Ok (record { semaphore = with_count s s.count s.owner (s.nest + 1); waits = false })) (take_step (slot_from s) caller wait)
+    unfolding take_step
+    take_nested own h =
+        took (if_not_le _ _ _ _ none ∙ if_yes _ _ own ∙ if_ne _ _ _ _ h) (record { status = refl; semaphore = stands_count (stands_itself p) _ _ _ })
+
+    pub take_refused : held_by (slot_from s) caller ≡ false → polls wait ≡ true → TakenIs s (Err Unsatisfied) (take_step (slot_from s) caller wait)
+    unfolding take_step
+    take_refused own h = took (if_not_le _ _ _ _ none ∙ if_no _ _ own ∙ if_yes _ _ h) (record { status = refl; semaphore = stands_itself p })
+
+    pub take_waits : s.waiters < 32 → held_by (slot_from s) caller ≡ false → polls wait ≡ false
+        → TakenIs s (Ok (record { semaphore = with_queue s (s.waiters + 1) (set s.queue s.waiters caller); waits = true })) (take_step (slot_from s) caller wait)
+    unfolding take_step
+    take_waits room own h =
+        took (if_not_le _ _ _ _ none ∙ if_no _ _ own ∙ if_no _ _ h) (record { status = refl; semaphore = stands_joined s p caller _ room refl })
 
 -- ---- give
 
-pub gave : {s : Semaphore} {status woken : ℕ} {slot : Slot} {rule : rules.Given} → rule ≡ record { status = status; slot = slot; woken = woken }
-    → Stands s slot → GivenIs (record { status = status; woken = woken; semaphore = s }) rule
-gave {s} e st =
-    record {
-      status = ap (λ (r : rules.Given). r.status) (sym e);
-      woken = ap (λ (r : rules.Given). r.woken) (sym e);
-      semaphore = subst (λ (r : rules.Given). Stands s r.slot) (sym e) st;
-    }
+module _ (s : Semaphore) (p : Padded s) (place : ℕ) where
+  gave : {rule : rules.Given} {r : Result Given Refusal} {other : rules.Given} → rule ≡ other → GivenIs s r other → GivenIs s r rule
+  gave {rule} {r} e g = subst (λ (o : rules.Given). GivenIs s r o) (sym e) g
 
-pub given_as : {r : Given} {rule other : rules.Given} → rule ≡ other → GivenIs r other → GivenIs r rule
-given_as {r} e g = subst (λ (o : rules.Given). GivenIs r o) (sym e) g
+  module _ (some : 1 ≤ s.waiters) (within : 1 ≤ s.waiters → place < s.waiters) where
+    there : place < s.waiters
+    there = within some
 
-module _ (s : Slot) (place : ℕ) where
-  module _ (some : 1 ≤ length s.queue) (served : ℕ) (at : get_or s.queue place 0 ≡ served) where
+    abbrev served : ℕ
+    served = get_or s.queue place 0
+
+    queued : 1 ≤ length (waiters_of s)
+    queued = omega (arith, length_queue s p)
+
+    waiter : Waits (waiters_of s) served
+    waiter = record { place = place; within = omega (arith, length_queue s p, there); is = sym (get_or-take s.waiters s.queue place 0 there) }
+
     passes : {owner owner' nest nest' : ℕ} → owner ≡ owner' → nest ≡ nest'
-        → ◌≡◌ {A = rules.Given} (record { status = 0; slot = rules.counted s s.count owner nest (remove_at place s.queue); woken = get_or s.queue place 0 })
-        (record { status = 0; slot = rules.counted s s.count owner' nest' (remove_at place s.queue); woken = served })
-    passes o n = λ i. record { status = 0; slot = rules.counted s s.count (o i) (n i) (remove_at place s.queue); woken = at i }
+        → ◌≡◌ {A = rules.Given}
+        (record { status = 0; slot = rules.counted (slot_from s) s.count owner nest (remove_at place (waiters_of s)); woken = get_or (waiters_of s) place 0 })
+        (record { status = 0; slot = rules.counted (slot_from s) s.count owner' nest' (remove_at place (waiters_of s)); woken = served })
+    passes o n =
+        λ i. record {
+          status = 0;
+          slot = rules.counted (slot_from s) s.count (o i) (n i) (remove_at place (waiters_of s));
+          woken = get_or-take s.waiters s.queue place 0 there i;
+        }
 
-    pub pass_owned : is_binary s.attributes ≡ true
-        → pass_step s place ≡ record { status = 0; slot = rules.counted s s.count served 1 (remove_at place s.queue); woken = served }
+    pub pass_owned : (rest : List ℕ) → rest ≡ fit 32 0 (remove_at place s.queue) → is_binary s.attributes ≡ true
+        → GivenIs s (Ok (record { semaphore = with_count (with_queue s (s.waiters - 1) rest) s.count served 1; woken = Some served })) (pass_step (slot_from s) place)
     unfolding pass_step
-    pass_owned b = if_le _ _ _ _ some ∙ passes (if_yes (get_or s.queue place 0) s.owner b ∙ at) (if_yes 1 s.nest b)
+    pass_owned rest left b =
+        gave (if_le _ _ _ _ queued ∙ passes (if_yes (get_or (waiters_of s) place 0) s.owner b ∙ get_or-take s.waiters s.queue place 0 there) (if_yes 1 s.nest b))
+        (record { status = refl; woken = refl; waiter = waiter; semaphore = stands_count (stands_left s p place _ there left) _ _ _ })
 
-    pub pass_handed : is_binary s.attributes ≡ false → pass_step s place ≡ record { status = 0; slot = requeued s (remove_at place s.queue); woken = served }
+    pub pass_handed : (rest : List ℕ) → rest ≡ fit 32 0 (remove_at place s.queue) → is_binary s.attributes ≡ false
+        → GivenIs s (Ok (record { semaphore = with_queue s (s.waiters - 1) rest; woken = Some served })) (pass_step (slot_from s) place)
     unfolding pass_step
-    pass_handed b = if_le _ _ _ _ some ∙ passes (if_no (get_or s.queue place 0) s.owner b) (if_no 1 s.nest b)
+    pass_handed rest left b =
+        gave (if_le _ _ _ _ queued ∙ passes (if_no (get_or (waiters_of s) place 0) s.owner b) (if_no 1 s.nest b))
+        (record { status = refl; woken = refl; waiter = waiter; semaphore = stands_left s p place _ there left })
 
-  module _ (none : length s.queue < 1) where
-    pub pass_full : s.count ≡ s.maximum → pass_step s place ≡ record { status = 13; slot = s; woken = 0 }
+  module _ (none : s.waiters < 1) where
+    unqueued : length (waiters_of s) < 1
+    unqueued = omega (arith, length_queue s p)
+
+    pub pass_full : s.count ≡ s.maximum → GivenIs s (Err Unsatisfied) (pass_step (slot_from s) place)
     unfolding pass_step
-    pass_full h = if_not_le _ _ _ _ none ∙ if_eq _ _ _ _ h
+    pass_full h = gave (if_not_le _ _ _ _ unqueued ∙ if_eq _ _ _ _ h) (record { status = refl; woken = refl; waiter = tt; semaphore = stands_itself p })
 
     pub pass_raised : (s.count ≡ s.maximum → ⊥)
-        → pass_step s place ≡ record { status = 0; slot = rules.counted s (s.count + 1) 0 0 s.queue; woken = 0 }
+        → GivenIs s (Ok (record { semaphore = with_count s (s.count + 1) 0 0; woken = None })) (pass_step (slot_from s) place)
     unfolding pass_step
-    pass_raised h = if_not_le _ _ _ _ none ∙ if_ne _ _ _ _ h
+    pass_raised h =
+        gave (if_not_le _ _ _ _ unqueued ∙ if_ne _ _ _ _ h) (record { status = refl; woken = refl; waiter = tt; semaphore = stands_count (stands_itself p) _ _ _ })
 
   module _ (caller : ℕ) where
-    pub give_unowned : is_binary s.attributes ≡ false → give_step s caller place ≡ pass_step s place
+    pub give_unowned : {r : Result Given Refusal} → is_binary s.attributes ≡ false → GivenIs s r (pass_step (slot_from s) place)
+        → GivenIs s r (give_step (slot_from s) caller place)
     unfolding give_step pass_step
-    give_unowned b = if_no _ _ (if_no _ _ b) ∙ if_no _ _ (if_no _ _ b)
+    give_unowned b g = gave (if_no _ _ (if_no _ _ b) ∙ if_no _ _ (if_no _ _ b)) g
 
-    pub give_refused : is_binary s.attributes ≡ true → held_by s caller ≡ false → give_step s caller place ≡ record { status = 23; slot = s; woken = 0 }
+    pub give_refused : is_binary s.attributes ≡ true → held_by (slot_from s) caller ≡ false
+        → GivenIs s (Err NotOwnerOfResource) (give_step (slot_from s) caller place)
     unfolding give_step
-    give_refused b h = if_yes _ _ (both_and b (false_isnt (owned_by s caller) (sym (if_yes _ _ b) ∙ h)))
+    give_refused b h =
+        gave (if_yes _ _ (both_and b (false_isnt (owned_by (slot_from s) caller) (sym (if_yes _ _ b) ∙ h))))
+        (record { status = refl; woken = refl; waiter = tt; semaphore = stands_itself p })
 
-    module _ (held : held_by s caller ≡ true) where
-      may : (is_binary s.attributes and isnt (owned_by s caller)) ≡ false
-      may =
-          let both = and_both (is_binary s.attributes) (owned_by s caller) held in
-          if_yes _ _ both.0 ∙ if_yes _ _ both.1
+    module _ (own : held_by (slot_from s) caller ≡ true) where
+      may : (is_binary s.attributes and isnt (owned_by (slot_from s) caller)) ≡ false
+      may = if_yes _ _ (held_binary (slot_from s) caller own) ∙ if_yes _ _ (held_owned (slot_from s) caller own)
 
-      pub give_inner : 2 ≤ s.nest → give_step s caller place ≡ record { status = 0; slot = rules.counted s s.count s.owner (s.nest - 1) s.queue; woken = 0 }
+      pub give_inner : 2 ≤ s.nest
+          → GivenIs s (Ok (record { semaphore = with_count s s.count s.owner (s.nest - 1); woken = None })) (give_step (slot_from s) caller place)
       unfolding give_step
-      give_inner h = if_no _ _ may ∙ if_yes _ _ (both_and (and_both (is_binary s.attributes) (owned_by s caller) held).0 (le-leb 2 s.nest h))
+      give_inner h =
+          gave (if_no _ _ may ∙ if_yes _ _ (both_and (held_binary (slot_from s) caller own) (le-leb 2 s.nest h)))
+          (record { status = refl; woken = refl; waiter = tt; semaphore = stands_count (stands_itself p) _ _ _ })
 
-      pub give_outer : s.nest < 2 → give_step s caller place ≡ pass_step s place
+      pub give_outer : {r : Result Given Refusal} → s.nest < 2 → GivenIs s r (pass_step (slot_from s) place)
+          → GivenIs s r (give_step (slot_from s) caller place)
       unfolding give_step pass_step
-      give_outer h = if_no _ _ may ∙ if_no _ _ (if_yes _ _ (and_both (is_binary s.attributes) (owned_by s caller) held).0 ∙ lt-leb 2 s.nest h)
+      give_outer h g = gave (if_no _ _ may ∙ if_no _ _ (if_yes _ _ (held_binary (slot_from s) caller own) ∙ lt-leb 2 s.nest h)) g
 
--- ---- a new semaphore
+pub ruleset taking = (take_owned, take_passed, take_full, take_nested, take_refused, take_waits)
 
-module _ (generation caller name count attributes maximum : ℕ) where
-  -- with its owner and nest
-  abbrev pub new_slot : ℕ → ℕ → Slot
-  new_slot owner nest =
-      record {
-        generation = generation + 1;
-        live = 1;
-        name = name;
-        attributes = attributes;
-        count = count;
-        owner = owner;
-        nest = nest;
-        maximum = maximum;
-        queue = [];
-      }
+pub ruleset passing = (pass_owned, pass_handed, pass_full, pass_raised)
 
-  stands_new : (owner nest : ℕ) → new_slot owner nest ≡ new_semaphore generation caller name count attributes maximum
-      → Stands (record_of (new_slot owner nest)) (new_semaphore generation caller name count attributes maximum)
-  stands_new owner nest e = record { same = e; padded = record { few = omega arith; filled = refl } }
-
-  pub new_unowned : (is_binary attributes and eqb count 0) ≡ false
-      → Stands (record_of (new_slot 0 0)) (new_semaphore generation caller name count attributes maximum)
-  unfolding new_semaphore
-  new_unowned e = stands_new 0 0 (sym λ i. new_slot (if_no caller 0 e i) (if_no 1 0 e i))
-
-  pub new_owned : (is_binary attributes and eqb count 0) ≡ true
-      → Stands (record_of (new_slot caller 1)) (new_semaphore generation caller name count attributes maximum)
-  unfolding new_semaphore
-  new_owned e = stands_new caller 1 (sym λ i. new_slot (if_yes caller 0 e i) (if_yes 1 0 e i))
+pub ruleset giving = (give_unowned, give_refused, give_inner, give_outer)

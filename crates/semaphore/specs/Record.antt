@@ -1,14 +1,17 @@
 -- A semaphore's record in code, and the slot of the rules that it stands for.
-use Rattle.std.specs.Prelude.{◌≡◌, Bool, false, List, [], ◌∷◌, ℕ, pred, ◌≤◌, ◌<◌, length, get_or, take}
+use Rattle.std.specs.Prelude.{◌≡◌, Result, Ok, Err, Option, None, IfSome, if◌then◌else◌, Bool, false, List, [], ◌∷◌, ℕ, pred, ◌≤◌, ◌<◌, length, get_or, take}
+use Rattle.std.specs.Option.{unwrap_or}
 use Rattle.laws.specs.Choose.{choose}
 use Rattle.laws.specs.Rows.{fit}
 use Rattle.rules.specs.Machine.{Slot}
+use Rattle.rules.specs.Numbers.{successful, waiting}
+use Rattle.rules.specs.declared.refusal.Refusal.{Refusal}
+use Rattle.rules.specs.Status.{status_of, status}
 use Rattle.rules.specs.Semaphore as rules
 use Rattle.semaphore.specs.declared.Semaphore.{Semaphore}
 use Rattle.semaphore.specs.declared.Kept.{Kept}
 use Rattle.semaphore.specs.declared.Taken.{Taken}
 use Rattle.semaphore.specs.declared.Given.{Given}
-use Rattle.semaphore.specs.declared.Flushed.{Flushed}
 
 abbrev pub slot_from : Semaphore → Slot
 slot_from s =
@@ -50,51 +53,43 @@ pub record Stands (s : Semaphore) (slot : Slot) : Type 0 where
   pub same : slot_from s ≡ slot
   pub padded : Padded s
 
--- a result of code is one of the rules
-pub record TakenIs (r : Taken) (rule : rules.Taken) : Type 0 where
-  pub status : r.status ≡ rule.status
-  pub semaphore : Stands r.semaphore rule.slot
+-- ---- what a take and a give answer
 
-pub record FlushedIs (r : Flushed) (slot : Slot) : Type 0 where
-  pub status : r.status ≡ 0
-  pub semaphore : Stands r.semaphore slot
+-- the status number of a take: 0, or 100 where the caller waits, or the refusal's
+abbrev pub take_status : Result Taken Refusal → ℕ
+take_status (Ok taken) = if taken.waits then waiting else successful
+take_status (Err e) = status_of e
 
-pub record GivenIs (r : Given) (rule : rules.Given) : Type 0 where
-  pub status : r.status ≡ rule.status
-  pub woken : r.woken ≡ rule.woken
-  pub semaphore : Stands r.semaphore rule.slot
+-- the record after a take and after a give: a refusal leaves it as it was
+abbrev pub after_take : Semaphore → Result Taken Refusal → Semaphore
+after_take s (Ok taken) = taken.semaphore
+after_take s (Err e) = s
 
--- ---- the parts of a record that a step changes
+abbrev pub after_give : Semaphore → Result Given Refusal → Semaphore
+after_give s (Ok given) = given.semaphore
+after_give s (Err e) = s
 
-abbrev pub with_count : Semaphore → ℕ → ℕ → ℕ → Semaphore
-with_count s count owner nest =
-    record {
-      generation = s.generation;
-      live = s.live;
-      name = s.name;
-      attributes = s.attributes;
-      count = count;
-      owner = owner;
-      nest = nest;
-      maximum = s.maximum;
-      waiters = s.waiters;
-      queue = s.queue;
-    }
+-- the task that a give wakes
+abbrev pub woken_by : Result Given Refusal → Option ℕ
+woken_by (Ok given) = given.woken
+woken_by (Err e) = None
 
-abbrev pub with_queue : Semaphore → ℕ → List ℕ → Semaphore
-with_queue s waiters queue =
-    record {
-      generation = s.generation;
-      live = s.live;
-      name = s.name;
-      attributes = s.attributes;
-      count = s.count;
-      owner = s.owner;
-      nest = s.nest;
-      maximum = s.maximum;
-      waiters = waiters;
-      queue = queue;
-    }
+-- a task that waits in a queue
+pub record Waits (queue : List ℕ) (q : ℕ) : Type 0 where
+  pub place : ℕ
+  pub within : place < length queue
+  pub is : q ≡ get_or queue place 0
+
+-- a take and a give of the record s answer as the rules' steps do
+pub record TakenIs (s : Semaphore) (r : Result Taken Refusal) (rule : rules.Taken) : Type 0 where
+  pub status : take_status r ≡ rule.status
+  pub semaphore : Stands (after_take s r) rule.slot
+
+pub record GivenIs (s : Semaphore) (r : Result Given Refusal) (rule : rules.Given) : Type 0 where
+  pub status : status r ≡ rule.status
+  pub woken : unwrap_or (woken_by r) 0 ≡ rule.woken
+  pub waiter : IfSome (woken_by r) (Waits (take s.waiters s.queue))
+  pub semaphore : Stands (after_give s r) rule.slot
 
 -- ---- a queue without the tasks whose wait has ended
 

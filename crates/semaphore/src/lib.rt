@@ -1,18 +1,20 @@
 // One slot of the tables, with its queue, as a record that is passed and returned by value.
 #![tactic(auto)]
 
-ghost use Rattle.std.specs.Prelude.{◌≡◌, ℕ, ◌+◌, ◌≤◌, ◌<◌, ltb, length, take};
-ghost use Rattle.laws.specs.Choose.{choose, ◌and◌};
+ghost use Rattle.std.specs.Prelude.{◌≡◌, ◌≤◌, ◌<◌, take};
+ghost use Rattle.laws.specs.Choose.{◌and◌};
 ghost use Rattle.laws.specs.Rows.{fit};
 ghost use Rattle.rules.specs.Machine.{free_slot};
 ghost use Rattle.rules.specs.Semaphore.{remove_at, owned_by, polls, take_step, pass_step, give_step, flush_step};
 ghost use Rattle.rules.specs.Calls.{new_semaphore};
 ghost use Rattle.rules.specs.Numbers.{is_binary};
-ghost use Rattle.semaphore.specs.Record.{slot_from, record_of, with_count, with_queue, Padded, TasksOnly};
-ghost use Rattle.semaphore.specs.Record.{Stands, TakenIs, GivenIs, FlushedIs, keep, KeptIs, slot_keeping};
+ghost use Rattle.semaphore.specs.Record.{slot_from, record_of, Padded, TasksOnly};
+ghost use Rattle.semaphore.specs.Record.{Stands, TakenIs, GivenIs, keep, KeptIs, slot_keeping};
 
-use rules::Wait;
+use rules::{Refusal, Wait};
 
+/// A semaphore, or a slot that holds none. Its fields are a slot's words as the layout has them, in which 0 stands for free and for no owner, and the queue has
+/// 32 places beside the number of its waiters.
 #[derive(Clone, Copy)]
 pub struct Semaphore {
     pub generation: u32,
@@ -30,29 +32,21 @@ pub struct Semaphore {
     pub queue: [u32; 32],
 }
 
-// What a take hands back: the status (0, 13 or 100) and the record after it.
+/// What a take leaves: the record after it, and whether the caller has joined its queue. A refused take leaves the record as it was.
 #[derive(Clone, Copy)]
 pub struct Taken {
-    pub status: u32,
     pub semaphore: Semaphore,
+    pub waits: bool,
 }
 
-// What a give hands back: the status (0, 13 or 23), the task that is woken or 0, and the record after it.
+/// What a give leaves: the record after it, and the task that is woken. A refused give leaves the record as it was.
 #[derive(Clone, Copy)]
 pub struct Given {
-    pub status: u32,
-    pub woken: u32,
     pub semaphore: Semaphore,
+    pub woken: Option<u32>,
 }
 
-// What a flush hands back: the status, always 0, and the record after it; all of the queue is woken.
-#[derive(Clone, Copy)]
-pub struct Flushed {
-    pub status: u32,
-    pub semaphore: Semaphore,
-}
-
-// What is kept of a queue: how many wait in it, and the tasks, then 0.
+// What is kept of a queue: how many wait in it, and the tasks, then 0, as the record has them.
 #[derive(Clone, Copy)]
 pub struct Kept {
     pub waiters: u32,
@@ -62,72 +56,47 @@ pub struct Kept {
 fn polls(wait: Wait) -> bool
     ensures { result ≡ polls wait }
 {
-    match wait {
-        Wait::Poll => true,
-        Wait::Forever => false,
-        Wait::Ticks(_) => false,
-    }
-}
-
-// Where in a queue stands who has place k once the one at `place` has left.
-fn moves_from(k: usize, place: usize) -> usize
-    requires { k < 31 }
-    ensures near { result ≤ k + 1 }
-    ensures from { result ≡ choose (ltb k place) k (k + 1) }
-{
-    if k < place {
-        return k;
-    }
-    k + 1
+    matches!(wait, Wait::Poll)
 }
 
 // The queue without the one at `place`.
-fn removed(queue: [u32; 32], place: usize) -> [u32; 32]
+#[tactic(auto, using(crate::proofs::Queue::remove_copied))]
+fn removed(mut queue: [u32; 32], place: usize) -> [u32; 32]
     requires { place < 32 }
     ensures { result ≡ fit 32 0 (remove_at place queue) }
 {
-    let mut out = [0u32; 32];
-    let mut k = 0;
-    while k < 31 {
-        let from = moves_from(k, place);
-        out[k] = queue[from];
-        k += 1;
-    }
-    out
+    queue.copy_within(place + 1.., place);
+    queue[31] = 0;
+    queue
 }
 
 // The waiters of a queue whose wait has not ended, in the same order.
+#[tactic(auto, using(crate::proofs::Queue::keep_few, crate::proofs::Queue::kept_without, crate::proofs::Queue::kept_with), unfolding(crate::specs::Record::keep, laws::specs::Rows::fit))]
 fn filtered(queue: [u32; 32], waiters: u32, expired: [bool; 32]) -> Kept
     requires { (waiters ≤ 32) × TasksOnly waiters queue }
     ensures { KeptIs result (keep expired (take waiters queue)) }
 {
-    let mut out = [0u32; 32];
-    let mut n = 0;
-    let mut k = 0;
-    while k < waiters as usize {
+    let mut kept = Kept {
+        waiters: 0,
+        tasks: [0; 32],
+    };
+    for k in 0..waiters as usize {
         let q = queue[k];
-        let i = q as usize - 1;
-        let gone = expired[i];
-        if gone {
-            k += 1;
-            continue;
+        if !expired[q as usize - 1] {
+            kept.tasks[kept.waiters as usize] = q;
+            kept.waiters += 1;
         }
-        out[n] = q;
-        n += 1;
-        k += 1;
     }
-    Kept {
-        waiters: n as u32,
-        tasks: out,
-    }
+    kept
 }
 
-// A slot that holds no semaphore.
+/// A slot that holds no semaphore.
+#[tactic(auto, unfolding(laws::specs::Rows::fit))]
 pub fn free(generation: u32) -> Semaphore
     ensures { (result ≡ record_of (free_slot generation)) × Stands result (free_slot generation) }
 {
     Semaphore {
-        generation: generation,
+        generation,
         live: 0,
         name: 0,
         attributes: 0,
@@ -140,7 +109,8 @@ pub fn free(generation: u32) -> Semaphore
     }
 }
 
-// A new semaphore in a slot of that generation.
+/// A new semaphore in a slot of that generation; a binary one with count 0 is its caller's.
+#[tactic(auto, using(laws::proofs::Choose::cases), unfolding(laws::specs::Rows::fit, rules::specs::Calls::new_semaphore))]
 pub fn created(
     generation: u32,
     caller: u32,
@@ -152,196 +122,176 @@ pub fn created(
     requires { generation < 65535 }
     ensures { Stands result (new_semaphore generation caller name count attributes maximum) }
 {
-    let made = Semaphore {
+    let (owner, nest) = if rules::is_binary(attributes) && count == 0 {
+        (caller, 1)
+    } else {
+        (0, 0)
+    };
+    Semaphore {
         generation: generation + 1,
         live: 1,
-        name: name,
-        attributes: attributes,
-        count: count,
-        owner: 0,
-        nest: 0,
-        maximum: maximum,
+        name,
+        attributes,
+        count,
+        owner,
+        nest,
+        maximum,
         waiters: 0,
         queue: [0; 32],
-    };
-    if !rules::is_binary(attributes) {
-        return made;
     }
-    if count != 0 {
-        return made;
-    }
-    made.with_count(count, caller, 1)
 }
 
 impl Semaphore {
-    // The same semaphore with another count, owner and nest.
-    fn with_count(mut self, count: u32, owner: u32, nest: u32) -> Semaphore
-        ensures { result ≡ with_count self count owner nest }
-    {
-        self.count = count;
-        self.owner = owner;
-        self.nest = nest;
-        self
-    }
-
-    // The same semaphore with another queue.
-    fn with_queue(mut self, waiters: u32, queue: [u32; 32]) -> Semaphore
-        ensures { result ≡ with_queue self waiters queue }
-    {
-        self.waiters = waiters;
-        self.queue = queue;
-        self
-    }
-
     // Whether a binary semaphore is the caller's; caller 0 owns nothing.
+    #[tactic(auto, using(laws::proofs::Choose::cases))]
     fn is_held_by(self, caller: u32) -> bool
         ensures { result ≡ (is_binary self.attributes and owned_by (slot_from self) caller) }
     {
-        if !rules::is_binary(self.attributes) {
-            return false;
-        }
-        if self.owner != caller {
-            return false;
-        }
-        if caller == 0 {
-            return false;
-        }
-        true
+        rules::is_binary(self.attributes) && self.owner == caller && caller != 0
     }
 
-    // One semaphore's step of an obtain; a caller that waits joins the queue at the rear.
-    pub fn take(self, caller: u32, wait: Wait) -> Taken
+    /// One semaphore's step of an obtain; a caller that waits joins the queue at the rear.
+    #[tactic(auto, using(crate::proofs::TakeGive::taking))]
+    pub fn take(self, caller: u32, wait: Wait) -> Result<Taken, Refusal>
         requires { Padded self × (self.waiters < 32) }
-        ensures { TakenIs result (take_step (slot_from self) caller wait) }
+        ensures { TakenIs self result (take_step (slot_from self) caller wait) }
     {
         if self.count >= 1 {
-            if rules::is_binary(self.attributes) {
-                let owned = self.with_count(self.count - 1, caller, 1);
-                return Taken {
-                    status: rules::SUCCESSFUL,
-                    semaphore: owned,
-                };
-            }
-            let passed = self.with_count(self.count - 1, self.owner, self.nest);
-            return Taken {
-                status: rules::SUCCESSFUL,
-                semaphore: passed,
+            let passed = Semaphore {
+                count: self.count - 1,
+                ..self
             };
+            if rules::is_binary(self.attributes) {
+                let owned = Semaphore {
+                    owner: caller,
+                    nest: 1,
+                    ..passed
+                };
+                return Ok(Taken {
+                    semaphore: owned,
+                    waits: false,
+                });
+            }
+            return Ok(Taken {
+                semaphore: passed,
+                waits: false,
+            });
         }
         if self.is_held_by(caller) {
-            if self.nest == rules::MAX_NUMBER {
-                return Taken {
-                    status: rules::UNSATISFIED,
-                    semaphore: self,
-                };
-            }
-            let nested = self.with_count(self.count, self.owner, self.nest + 1);
-            return Taken {
-                status: rules::SUCCESSFUL,
-                semaphore: nested,
-            };
+            let nest = self.nest.checked_add(1).ok_or(Refusal::Unsatisfied)?;
+            return Ok(Taken {
+                semaphore: Semaphore { nest, ..self },
+                waits: false,
+            });
         }
         if polls(wait) {
-            return Taken {
-                status: rules::UNSATISFIED,
-                semaphore: self,
-            };
+            return Err(Refusal::Unsatisfied);
         }
-        let rear = self.waiters as usize;
-        let mut longer = self.queue;
-        longer[rear] = caller;
-        let joined = self.with_queue(self.waiters + 1, longer);
-        Taken {
-            status: rules::WAITING,
-            semaphore: joined,
-        }
+        let mut queue = self.queue;
+        queue[self.waiters as usize] = caller;
+        Ok(Taken {
+            semaphore: Semaphore {
+                waiters: self.waiters + 1,
+                queue,
+                ..self
+            },
+            waits: true,
+        })
     }
 
     // What a release does to a semaphore that the caller may give and does not hold twice; the waiter at `place` is served.
-    fn passed_on(self, place: usize) -> Given
+    #[tactic(auto, using(crate::proofs::TakeGive::passing))]
+    fn passed_on(self, place: usize) -> Result<Given, Refusal>
         requires { Padded self × (self.count ≤ self.maximum) × (1 ≤ self.waiters → place < self.waiters) }
-        ensures { GivenIs result (pass_step (slot_from self) place) }
+        ensures { GivenIs self result (pass_step (slot_from self) place) }
     {
         if self.waiters >= 1 {
-            let queue = self.queue;
-            let served = queue[place];
-            let rest = removed(queue, place);
-            let shorter = self.with_queue(self.waiters - 1, rest);
-            if rules::is_binary(self.attributes) {
-                let handed = shorter.with_count(self.count, served, 1);
-                return Given {
-                    status: rules::SUCCESSFUL,
-                    woken: served,
-                    semaphore: handed,
-                };
-            }
-            return Given {
-                status: rules::SUCCESSFUL,
-                woken: served,
-                semaphore: shorter,
+            let served = self.queue[place];
+            let shorter = Semaphore {
+                waiters: self.waiters - 1,
+                queue: removed(self.queue, place),
+                ..self
             };
+            if rules::is_binary(self.attributes) {
+                let handed = Semaphore {
+                    owner: served,
+                    nest: 1,
+                    ..shorter
+                };
+                return Ok(Given {
+                    semaphore: handed,
+                    woken: Some(served),
+                });
+            }
+            return Ok(Given {
+                semaphore: shorter,
+                woken: Some(served),
+            });
         }
         if self.count == self.maximum {
-            return Given {
-                status: rules::UNSATISFIED,
-                woken: 0,
-                semaphore: self,
-            };
+            return Err(Refusal::Unsatisfied);
         }
-        let raised = self.with_count(self.count + 1, 0, 0);
-        Given {
-            status: rules::SUCCESSFUL,
-            woken: 0,
+        let raised = Semaphore {
+            count: self.count + 1,
+            owner: 0,
+            nest: 0,
+            ..self
+        };
+        Ok(Given {
             semaphore: raised,
-        }
+            woken: None,
+        })
     }
 
-    // One semaphore's step of a release, which serves the waiter at `place`.
-    pub fn give(self, caller: u32, place: usize) -> Given
+    /// One semaphore's step of a release, which serves the waiter at `place`.
+    #[tactic(auto, using(crate::proofs::TakeGive::giving))]
+    pub fn give(self, caller: u32, place: usize) -> Result<Given, Refusal>
         requires { Padded self × (self.count ≤ self.maximum) × (1 ≤ self.waiters → place < self.waiters) }
-        ensures { GivenIs result (give_step (slot_from self) caller place) }
+        ensures { GivenIs self result (give_step (slot_from self) caller place) }
     {
         if !rules::is_binary(self.attributes) {
             return self.passed_on(place);
         }
         if !self.is_held_by(caller) {
-            return Given {
-                status: rules::NOT_OWNER_OF_RESOURCE,
-                woken: 0,
-                semaphore: self,
-            };
+            return Err(Refusal::NotOwnerOfResource);
         }
         if self.nest >= 2 {
-            let inner = self.with_count(self.count, self.owner, self.nest - 1);
-            return Given {
-                status: rules::SUCCESSFUL,
-                woken: 0,
-                semaphore: inner,
-            };
+            return Ok(Given {
+                semaphore: Semaphore {
+                    nest: self.nest - 1,
+                    ..self
+                },
+                woken: None,
+            });
         }
         self.passed_on(place)
     }
 
-    // One semaphore's step of a flush.
-    pub fn flush(self) -> Flushed
+    /// One semaphore's step of a flush, which is never refused.
+    #[tactic(auto, unfolding(laws::specs::Rows::fit, rules::specs::Semaphore::flush_step))]
+    pub fn flush(self) -> Semaphore
         requires { Padded self }
-        ensures { FlushedIs result (flush_step (slot_from self)) }
+        ensures { Stands result (flush_step (slot_from self)) }
     {
-        let emptied = self.with_queue(0, [0; 32]);
-        Flushed {
-            status: 0,
-            semaphore: emptied,
+        Semaphore {
+            waiters: 0,
+            queue: [0; 32],
+            ..self
         }
     }
 
-    // The same semaphore, its queue without the tasks whose wait has ended.
+    /// The same semaphore, its queue without the tasks whose wait has ended.
+    #[tactic(auto, using(crate::proofs::TakeGive::stands_kept))]
     pub fn without(self, expired: [bool; 32]) -> Semaphore
         requires { Padded self × TasksOnly self.waiters self.queue }
         ensures { Stands result (slot_keeping (slot_from self) expired) }
     {
-        let queue = self.queue;
-        let rest = filtered(queue, self.waiters, expired);
-        let tasks = rest.tasks;
-        self.with_queue(rest.waiters, tasks)
+        let kept = filtered(self.queue, self.waiters, expired);
+        let queue = kept.tasks;
+        Semaphore {
+            waiters: kept.waiters,
+            queue,
+            ..self
+        }
     }
 }

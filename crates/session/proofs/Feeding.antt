@@ -1,5 +1,5 @@
 -- A part fed byte by byte: what is kept, what is said and how much is left to take.
-use mathlib.Core.Path.{◌≡◌, refl, sym, ap, ◌∙◌}
+use mathlib.Core.Path.{◌≡◌, refl, sym, ap, subst, ◌∙◌}
 use mathlib.Core.List.{List, [], ◌∷◌, ◌++◌, append_assoc, append-nil}
 use mathlib.Core.Option.{Option, none, some}
 use Prim.Native.Nat.{ℕ, suc, ◌+◌, ◌-◌, ◌*◌, ◌≤◌, ◌<◌}
@@ -15,7 +15,6 @@ use Rattle.line.specs.Line.{line_of}
 use Rattle.line.specs.Print.{spliced}
 use Rattle.line.proofs.Printing.{answer_length, one_more as text_more}
 use Rattle.session.specs.declared.Fed.{Fed}
-use Rattle.session.specs.declared.Stepped.{Stepped}
 use Rattle.session.specs.Kept.{Kept, keeps, Response, response_to, respond, end_line, lengthen, after_byte, said_to, after_part, said_to_part, at_end, taken_of}
 use Rattle.session.specs.Feeding.{Writes, Took, FedIs}
 use Rattle.session.proofs.Output.{front, spliced_fits, unspliced, writes_same}
@@ -37,7 +36,7 @@ said_append k (x ∷ a) b = rw (said_append (after_byte k x) a b, append_assoc)
 module _ (k : Kept) (b : ℕ) where
   -- a newline
   pub took_newline : b ≡ 10 → {end at : ℕ} {bs before out : List ℕ} → Writes (end_line k) at end bs before out
-      → Took (record { at = end; begun = 0 }) k b at bs k.line before out
+      → Took k b at end (keeps bs k.line 0) before out
   unfolding after_byte said_to
   took_newline e {end} {at} {bs} {before} {out} w =
       let said : said_to k b ≡ (end_line k).output = if_eq b 10 _ _ e in
@@ -48,10 +47,9 @@ module _ (k : Kept) (b : ℕ) where
       }
 
   -- any other byte
-  pub took_other : (b ≡ 10 → ⊥) → {n at : ℕ} {bs line out : List ℕ} → keeps bs line n ≡ lengthen k b
-      → Took (record { at = at; begun = n }) k b at bs line out out
+  pub took_other : (b ≡ 10 → ⊥) → {k' : Kept} {at : ℕ} {out : List ℕ} → k' ≡ lengthen k b → Took k b at at k' out out
   unfolding after_byte said_to
-  took_other e {n} {at} {bs} {line} {out} l =
+  took_other e {at = at} {out = out} l =
       let said : said_to k b ≡ [] = if_ne b 10 _ _ e in
       record {
         kept = l ∙ sym (if_ne b 10 _ _ e);
@@ -106,31 +104,27 @@ taken_within k (b ∷ bs) room =
 -- ---- the turns of the loop over a part
 
 -- what holds at each turn, and after the last
-pub record Underway (k : Kept) (input out₀ m line out : List ℕ) (taken at kept : ℕ) : Type 0 where
-  pub bytes : length m ≡ length k.bytes
-  pub full : length line ≡ 256
+pub record Underway (k : Kept) (input out₀ : List ℕ) (k' : Kept) (out : List ℕ) (taken at : ℕ) : Type 0 where
   pub output : length out ≡ length out₀
   pub inside : taken ≤ length input
   pub fits : at ≤ length out₀
-  pub stands : keeps m line kept ≡ after_part k (take taken input)
+  pub stands : k' ≡ after_part k (take taken input)
   pub ends : at ≡ length (said_to_part k (take taken input))
   pub text : out ≡ spliced 0 (said_to_part k (take taken input)) out₀
-  pub rest : taken_of k input (length out₀) ≡ taken + taken_of (keeps m line kept) (drop taken input) (length out₀ - at)
+  pub rest : taken_of k input (length out₀) ≡ taken + taken_of k' (drop taken input) (length out₀ - at)
 
-pub underway_none : (m line input out : List ℕ) (begun : ℕ) → length line ≡ 256 → Underway (keeps m line begun) input out m line out 0 0 begun
+pub underway_none : (k : Kept) (input out : List ℕ) → Underway k input out k out 0 0
 unfolding after_part said_to_part
-underway_none m line input out begun h =
+underway_none k input out =
     let room : length out ≡ length out - 0 = omega arith in
     record {
-      bytes = refl;
-      full = h;
       output = refl;
       inside = omega arith;
       fits = omega arith;
       stands = refl;
       ends = refl;
       text = sym (unspliced 0 out);
-      rest = omega (arith, ap (taken_of (keeps m line begun) input) room);
+      rest = omega (arith, ap (taken_of k input) room);
     }
 
 module _ (k : Kept) (input : List ℕ) (n : ℕ) (more : n < length input) where
@@ -155,26 +149,21 @@ module _ (k : Kept) (input : List ℕ) (n : ℕ) (more : n < length input) where
       ap (said_to_part k) one_byte ∙ said_append k (take n input) (byte ∷ [])
       ∙ ap (λ (l : List ℕ). said_to_part k (take n input) ++ l) (append-nil (said_to (after_part k (take n input)) byte))
 
-  pub underway_more :
-      (out₀ m line out m' line' out' : List ℕ) (at kept : ℕ) (r : Stepped)
-      → Underway k input out₀ m line out n at kept
+  pub underway_more : (out₀ : List ℕ) (here : Kept) (out : List ℕ) (k' : Kept) (out' : List ℕ) (at end : ℕ) → Underway k input out₀ here out n at
       → 33 ≤ length out - at
-      → Took r (keeps m line kept) (get_or input n 0) at m' line' out out'
-      → length m' ≡ length m → length line' ≡ length line → length out' ≡ length out
-      → Underway k input out₀ m' line' out' (n + 1) r.at r.begun
+      → Took here (get_or input n 0) at end k' out out'
+      → length out' ≡ length out
+      → Underway k input out₀ k' out' (n + 1) end
   unfolding byte
-  underway_more out₀ m line out m' line' out' at kept r i room t bytes full output =
-      let here : Kept = keeps m line kept in
+  underway_more out₀ here out k' out' at end i room t output =
       let said : List ℕ = said_to here byte in
       let fits = spliced_fits at said out (omega (arith, i.fits, i.output)) out' output t.output in
       let before : List ℕ = said_to_part k (take n input) in
-      let written = text_more 0 before said out₀ out out' at r.at (omega (arith, i.ends, i.fits)) (omega (arith, i.ends), i.text) (t.ends, t.output) in
+      let written = text_more 0 before said out₀ out out' at end (omega (arith, i.ends, i.fits)) (omega (arith, i.ends), i.text) (t.ends, t.output) in
       let whole : before ++ said ≡ said_to_part k (take (n + 1) input) =
       ap (λ (s : Kept). before ++ said_to s byte) i.stands ∙ sym said_more in
-      let left : length out₀ - at - length said ≡ length out₀ - r.at = omega (arith, t.ends) in
+      let left : length out₀ - at - length said ≡ length out₀ - end = omega (arith, t.ends) in
       record {
-        bytes = bytes ∙ i.bytes;
-        full = full ∙ i.full;
         output = output ∙ i.output;
         inside = omega arith;
         fits = omega (arith, t.ends, i.output);
@@ -188,20 +177,26 @@ module _ (k : Kept) (input : List ℕ) (n : ℕ) (more : n < length input) where
               ap (λ (l : List ℕ). taken_of here l (length out₀ - at)) next_byte
                   ∙ taken_byte here byte (drop (n + 1) input) (length out₀ - at) (omega (arith, i.output))
                   ∙ ap (λ (s : Kept). suc (taken_of s (drop (n + 1) input) (length out₀ - at - length said))) (sym t.kept)
-                  ∙ ap (λ (j : ℕ). suc (taken_of (keeps m' line' r.begun) (drop (n + 1) input) j)) left,
+                  ∙ ap (λ (j : ℕ). suc (taken_of k' (drop (n + 1) input) j)) left,
             );
       }
 
 -- the turns end where nothing more is taken
-pub fed_is :
-    {k : Kept} {input out₀ m line out : List ℕ} {taken at kept : ℕ} → Underway k input out₀ m line out taken at kept
-    → taken_of (keeps m line kept) (drop taken input) (length out₀ - at) ≡ 0
-    → FedIs (record { taken = taken; written = at; begun = kept }) k input m line out₀ out
+pub fed_is : {k k' : Kept} {input out₀ out : List ℕ} {taken at : ℕ} → Underway k input out₀ k' out taken at
+    → taken_of k' (drop taken input) (length out₀ - at) ≡ 0
+    → FedIs (record { taken = taken; written = at }) k input k' out₀ out
 fed_is i e = record { taken = omega (arith, i.rest); kept = i.stands; written = i.ends; output = i.text }
+
+pub fed_all : {k k' : Kept} {input out₀ out : List ℕ} {taken at : ℕ} → Underway k input out₀ k' out taken at
+    → taken ≡ length input
+    → taken_of k' (drop taken input) (length out₀ - at) ≡ 0
+    → FedIs (record { taken = length input; written = at }) k input k' out₀ out
+fed_all {k} {k'} {input} {out₀} {out} {taken} {at} i all e =
+    subst (λ (n : ℕ). FedIs (record { taken = n; written = at }) k input k' out₀ out) all (fed_is i e)
 
 -- ---- what feeding a part did
 
-module _ {r : Fed} {k : Kept} {input bs line before out : List ℕ} (f : FedIs r k input bs line before out) where
+module _ {r : Fed} {k k' : Kept} {input before out : List ℕ} (f : FedIs r k input k' before out) where
   pub fed_inside : r.taken ≤ length input
   fed_inside = omega (arith, f.taken, taken_within k input (length before))
 

@@ -2,10 +2,11 @@
 use mathlib.Core.Path.{◌≡◌, refl, sym, ap, ap₂, subst, ◌∙◌}
 use mathlib.Core.List.{List, [], ◌++◌, append_assoc, append-nil}
 use mathlib.Core.Option.{Option, none, some}
-use Prim.Native.Nat.{ℕ, ◌+◌, ◌-◌, ◌≤◌, ◌<◌}
+use Prim.Native.Nat.{ℕ, ◌+◌, ◌-◌, ◌≤◌, ◌<◌, min}
 use native.Mathlib.Omega.{arith}
 use lib.ListN.{length, take, drop, length-append, length-drop, take-append-drop}
 use lib.Seq.{take_all, take_at, drop-length, drop-drop, length-take-le}
+use Rattle.std.proofs.lemmas.List.{take_min}
 use Rattle.laws.proofs.Choose.{if_le, if_not_le}
 use Rattle.rules.specs.declared.Answer.{Answer}
 use Rattle.rules.specs.declared.Call.{Call}
@@ -116,6 +117,15 @@ module _ {at end : ℕ} {before out : List ℕ} where
         ends = f ∙ ap (λ (x : Answer). at + length (answer_line x)) d.answer;
         output = g ∙ ap (λ (x : Answer). spliced at (answer_line x) before) d.answer;
       })
+
+-- the first `count` of the numbers behind the first, or all of them
+pub behind_first : (numbers : List ℕ) (k n count : ℕ) → length numbers ≤ k + 1 → n ≡ min count (length (take k (drop 1 numbers)))
+    → take n (take k (drop 1 numbers)) ≡ take count (drop 1 numbers)
+behind_first numbers k n count h e =
+    let all : take k (drop 1 numbers) ≡ drop 1 numbers = take_all k (drop 1 numbers) (omega (arith, length-drop 1 numbers)) in
+    ap (λ (j : ℕ). take j (take k (drop 1 numbers))) e
+    ∙ ap (λ (l : List ℕ). take (min count (length l)) l) all
+    ∙ take_min count (drop 1 numbers)
 
 -- the same priorities
 pub replied_same : (bs : List ℕ) (call : Call) {p q : List ℕ} → p ≡ q → {r : Answer} {after : List ℕ}

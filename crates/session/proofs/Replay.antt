@@ -6,18 +6,18 @@ use native.Mathlib.Omega.{arith}
 use lib.ListN.{length, take}
 use Rattle.session.specs.declared.Fed.{Fed}
 use Rattle.session.specs.Session.{session}
-use Rattle.session.specs.Kept.{Kept, keeps, outset, after_part, said_to_part, at_end}
+use Rattle.session.specs.Kept.{Kept, outset, after_part, said_to_part, at_end}
 use Rattle.session.specs.Feeding.{Writes, FedIs}
 use Rattle.session.proofs.Output.{front}
 use Rattle.session.proofs.Feeding.{after_append, said_append, fed_text}
 use Rattle.session.proofs.Whole.{session_said}
 
--- each feed is handed the bytes, the line and its length that the one before left: what is kept, all that was taken and all that was written
+-- each feed is handed the bytes and the line that the one before left: what is kept, all that was taken and all that was written
 pub data Feeds : Kept → List ℕ → List ℕ → Type 0 where
   start : (line : List ℕ) → length line ≡ 256 → Feeds (outset line) [] []
   more : {k : Kept} {text written : List ℕ} → Feeds k text written
-      → (r : Fed) (input bs line before out : List ℕ) → FedIs r k input bs line before out
-      → Feeds (keeps bs line r.begun) (text ++ take r.taken input) (written ++ take r.written out)
+      → (r : Fed) (input : List ℕ) (k' : Kept) (before out : List ℕ) → FedIs r k input k' before out
+      → Feeds k' (text ++ take r.taken input) (written ++ take r.written out)
 
 pub record FedAll (k : Kept) (text written : List ℕ) : Type 0 where
   pub line : List ℕ
@@ -28,7 +28,7 @@ pub record FedAll (k : Kept) (text written : List ℕ) : Type 0 where
 pub feeds_all : {k : Kept} {text written : List ℕ} → Feeds k text written → FedAll k text written
 unfolding said_to_part after_part
 feeds_all (start line h) = record { line = line; full = h; kept = refl; said = refl }
-feeds_all (more {k = k} {text = t} {written = w} f r input bs line before out is) =
+feeds_all (more {k = k} {text = t} {written = w} f r input k' before out is) =
     let all = feeds_all f in
     let part : List ℕ = take r.taken input in
     record {

@@ -3,7 +3,7 @@ use mathlib.Core.Path.{◌≡◌, refl}
 use mathlib.Core.List.{List, [], ◌∷◌}
 use Prim.Native.Nat.{ℕ}
 use Rattle.rules.proofs.Asking.{answers_of}
-use Rattle.line.specs.Line.{fields, all_digits, spelled, is_number, are_numbers, numbers, same_bytes, request_of, line_of}
+use Rattle.line.specs.Line.{fields, all_digits, spelled, is_number, are_numbers, numbers, request_of, line_of}
 use Rattle.line.specs.Print.{digits_before, decimal, answer_line}
 use Rattle.session.specs.Session.{lines, answer_to, outputs, session}
 
@@ -60,7 +60,7 @@ output =
     ∷ []
 
 pub P1_P11_as_text : session input ≡ output
-unfolding answers_of fields all_digits spelled is_number are_numbers numbers same_bytes request_of line_of digits_before decimal answer_line
+unfolding answers_of fields all_digits spelled is_number are_numbers numbers request_of line_of digits_before decimal answer_line
     lines answer_to outputs session
 P1_P11_as_text = refl
 
@@ -151,6 +151,6 @@ P15_output =
 
 pub P12_P15_as_text : (session P12_input ≡ P12_output) × (session P13_input ≡ P13_output) × (session P14_input ≡ P14_output)
     × (session P15_input ≡ P15_output)
-unfolding answers_of fields all_digits spelled is_number are_numbers numbers same_bytes request_of line_of digits_before decimal answer_line
+unfolding answers_of fields all_digits spelled is_number are_numbers numbers request_of line_of digits_before decimal answer_line
     lines answer_to outputs session
 P12_P15_as_text = (refl, refl, refl, refl)

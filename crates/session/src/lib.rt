@@ -1,53 +1,60 @@
 // A session over the calls. Its input comes in parts of any size, and what it keeps between two is bounded: the tables, and one line's bytes.
 #![tactic(auto)]
 
-ghost use Rattle.std.specs.Prelude.{◌≡◌, List, ℕ, ◌+◌, ◌-◌, ◌≤◌, length, take, drop};
+ghost use Rattle.std.specs.Prelude.{◌≡◌, List, ℕ, ◌+◌, ◌≤◌, length, take, drop, replicate};
 ghost use Rattle.manager.specs.Entry.{Replied, reply_to};
-ghost use Rattle.session.specs.Kept.{keeps, respond, end_line, lengthen, at_end};
-ghost use Rattle.session.specs.Feeding.{Writes, Took, FedIs};
+ghost use Rattle.session.specs.Kept.{respond, end_line, lengthen, at_end};
+ghost use Rattle.session.specs.Feeding.{holding, Writes, Took, FedIs};
 
-use line::Line;
-use rules::{Answer, Call};
+use line::Request;
+use rules::Answer;
 
-// What feeding a part did: how many of its bytes were taken, how many of the output written, and how long the line is that has begun (257
-// where it is longer than 256).
+/// The line that has begun: its bytes, and how many of them it fills, more than 256 where it is longer.
+#[derive(Clone, Copy)]
+pub struct LineBuffer {
+    pub bytes: [u8; 256],
+    pub length: usize,
+}
+
+/// What feeding a part did: how many of its bytes were taken, and how many of the output written.
 #[derive(Clone, Copy)]
 pub struct Fed {
     pub taken: usize,
     pub written: usize,
-    pub begun: usize,
 }
 
-// One byte more of a line; beyond 256 only its being too long is kept.
-fn lengthened(line: &mut [u8], begun: usize, b: u8) -> usize
-    requires { length line.old ≡ 256 }
-    ensures { (bs : List ℕ) → keeps bs line.new result ≡ lengthen (keeps bs line.old begun) b }
-{
-    if begun < 256 {
-        line[begun] = b;
-        return begun + 1;
+impl LineBuffer {
+    /// No line has begun.
+    pub fn new() -> LineBuffer
+        ensures bytes { result.bytes ≡ replicate 256 0 }
+        ensures length { result.length ≡ 0 }
+    {
+        LineBuffer {
+            bytes: [0; 256],
+            length: 0,
+        }
     }
-    257
-}
 
-// Where `count` of the numbers behind the first end, and no later than all `n`.
-fn end_of(count: usize, n: usize) -> usize
-    requires { 1 ≤ n }
-    ensures { (1 ≤ result) × (result ≤ n) × ((xs : List ℕ) → length xs + 1 ≤ n → take (result - 1) xs ≡ take count xs) }
-{
-    if count < n {
-        return count + 1;
+    // One byte more of a line; beyond 256 only its being too long is kept.
+    fn push(&mut self, b: u8)
+        ensures { (bs : List ℕ) → holding bs self.new ≡ lengthen (holding bs self.old) b }
+    {
+        if self.length < 256 {
+            self.bytes[self.length] = b;
+            self.length += 1;
+        } else {
+            self.length = 257;
+        }
     }
-    n
 }
 
 // A call with the priorities that stand behind the first of a line's numbers.
-fn call_with(m: &mut [u8], call: Call, numbers: &[u32; 128], count: usize) -> Answer
-    ensures { Replied result m.new (reply_to m.old call (take count (drop 1 numbers.now))) }
+fn call_with(m: &mut [u8], request: Request, numbers: &[u32; 128]) -> Answer
+    ensures { Replied result m.new (reply_to m.old request.call (take request.count (drop 1 numbers.now))) }
 {
-    let all: &[u32] = numbers;
-    let end = end_of(count, 128);
-    manager::call(m, call, &all[1..end])
+    let behind_first = &numbers[1..];
+    let count = request.count.min(behind_first.len());
+    manager::call(m, request.call, &behind_first[..count])
 }
 
 // Answers a line at `at` of the output, and returns the place behind the answer.
@@ -56,17 +63,16 @@ fn answer_line(m: &mut [u8], line: &[u8], out: &mut [u8], at: usize) -> usize
     ensures { Writes (respond m.old line.now) at result m.new out.old out.new }
 {
     let mut numbers = [0u32; 128];
-    let scanned = line::scan(line, &mut numbers);
-    match scanned {
-        Line::Bad => at + line::print_bad(&mut out[at..]),
-        Line::Request { call, count } => {
-            let answer = call_with(m, call, &numbers, count);
+    match line::scan(line, &mut numbers) {
+        None => at + line::print_bad(&mut out[at..]),
+        Some(request) => {
+            let answer = call_with(m, request, &numbers);
             at + line::print_answer(&mut out[at..], answer)
         }
     }
 }
 
-// A line that is answered and not told so: what it leaves of the tables.
+/// A line that is answered and not told so: what it leaves of the tables.
 pub fn take_line(m: &mut [u8], line: &[u8])
     ensures { m.new ≡ (respond m.old line.now).bytes }
 {
@@ -75,95 +81,55 @@ pub fn take_line(m: &mut [u8], line: &[u8])
 }
 
 // A line has ended: too long is bad.
-fn end_line(m: &mut [u8], line: &[u8], begun: usize, out: &mut [u8], at: usize) -> usize
-    requires { (length line.now ≡ 256) × (at + 33 ≤ length out.old) }
-    ensures { Writes (end_line (keeps m.old line.now begun)) at result m.new out.old out.new }
+fn end_line(m: &mut [u8], line: &LineBuffer, out: &mut [u8], at: usize) -> usize
+    requires { at + 33 ≤ length out.old }
+    ensures { Writes (end_line (holding m.old line.now)) at result m.new out.old out.new }
 {
-    if 256 < begun {
+    if 256 < line.length {
         return at + line::print_bad(&mut out[at..]);
     }
-    answer_line(m, &line[..begun], out, at)
+    answer_line(m, &line.bytes[..line.length], out, at)
 }
 
-// One byte of the input: where its answer ends, and how long the line is then.
-#[derive(Clone, Copy)]
-struct Stepped {
-    pub at: usize,
-    pub begun: usize,
-}
-
-// A newline ends the line, and any other byte is one more of it.
-fn take_byte(
-    m: &mut [u8],
-    line: &mut [u8],
-    begun: usize,
-    b: u8,
-    out: &mut [u8],
-    at: usize,
-) -> Stepped
-    requires { (length line.old ≡ 256) × (at + 33 ≤ length out.old) }
-    ensures { Took result (keeps m.old line.old begun) b at
-        m.new line.new out.old out.new }
+// A newline ends the line, and any other byte is one more of it. Returns the place behind what is said.
+fn take_byte(m: &mut [u8], line: &mut LineBuffer, b: u8, out: &mut [u8], at: usize) -> usize
+    requires { at + 33 ≤ length out.old }
+    ensures { Took (holding m.old line.old) b at result
+        (holding m.new line.new) out.old out.new }
 {
-    if b == 10 {
-        let end = end_line(m, &line[..], begun, out, at);
-        return Stepped { at: end, begun: 0 };
+    if b == b'\n' {
+        let end = end_line(m, line, out, at);
+        line.length = 0;
+        return end;
     }
-    let longer = lengthened(line, begun, b);
-    Stepped { at, begun: longer }
+    line.push(b);
+    at
 }
 
-// As `feed`, on a line's 256 bytes lent as a slice.
-fn feed_part(m: &mut [u8], line: &mut [u8], begun: usize, input: &[u8], out: &mut [u8]) -> Fed
-    requires { length line.old ≡ 256 }
-    ensures { FedIs result (keeps m.old line.old begun) input.now
-        m.new line.new out.old out.new }
+/// Feeds a part of the input: until it is used up, or the output has no room for another answer, which is at most 33 bytes.
+pub fn feed(m: &mut [u8], line: &mut LineBuffer, input: &[u8], out: &mut [u8]) -> Fed
+    ensures { FedIs result (holding m.old line.old) input.now
+        (holding m.new line.new) out.old out.new }
 {
-    let mut taken = 0;
-    let mut at = 0;
-    let mut kept = begun;
-    while taken < input.len() {
-        if out.len() - at < 33 {
-            return Fed {
-                taken,
-                written: at,
-                begun: kept,
-            };
+    let mut written = 0;
+    for (taken, b) in input.iter().enumerate() {
+        if out.len() - written < 33 {
+            return Fed { taken, written };
         }
-        let step = take_byte(m, line, kept, input[taken], out, at);
-        at = step.at;
-        kept = step.begun;
-        taken += 1;
+        written = take_byte(m, line, *b, out, written);
     }
     Fed {
-        taken,
-        written: at,
-        begun: kept,
+        taken: input.len(),
+        written,
     }
 }
 
-// Feeds a part of the input: until it is used up, or the output has no room for another answer.
-pub fn feed(m: &mut [u8], line: &mut [u8; 256], begun: usize, input: &[u8], out: &mut [u8]) -> Fed
-    ensures { FedIs result (keeps m.old line.old begun) input.now
-        m.new line.new out.old out.new }
+/// The input has ended: a line that has begun counts. Returns the length of what is said.
+pub fn finish(m: &mut [u8], line: &LineBuffer, out: &mut [u8; 33]) -> usize
+    ensures { Writes (at_end (holding m.old line.now)) 0 result m.new out.old out.new }
 {
-    feed_part(m, line, begun, input, out)
-}
-
-// As `finish`, on a line's 256 bytes and an output lent as slices.
-fn end_input(m: &mut [u8], line: &[u8], begun: usize, out: &mut [u8]) -> usize
-    requires { (length line.now ≡ 256) × (33 ≤ length out.old) }
-    ensures { Writes (at_end (keeps m.old line.now begun)) 0 result m.new out.old out.new }
-{
-    if begun == 0 {
+    if line.length == 0 {
         return 0;
     }
-    end_line(m, line, begun, out, 0)
-}
-
-// The input has ended: a line that has begun counts. Returns the length of what is said.
-pub fn finish(m: &mut [u8], line: &[u8; 256], begun: usize, out: &mut [u8; 33]) -> usize
-    ensures { Writes (at_end (keeps m.old line.now begun)) 0 result m.new out.old out.new }
-{
-    end_input(m, line, begun, out)
+    end_line(m, line, out, 0)
 }

@@ -1,5 +1,5 @@
 -- What `mast-state show` prints of a machine: a line of counts, a line of each task, the ready tasks in their order, and a line of each semaphore.
-use Rattle.std.specs.Prelude.{List, [], ◌∷◌, ◌++◌, ℕ, suc, ◌%◌, eqb, length}
+use Rattle.std.specs.Prelude.{List, [], ◌∷◌, ◌++◌, ℕ, suc, ◌%◌, eqb, length, codes}
 use Rattle.laws.specs.Choose.{choose}
 use Rattle.laws.specs.Rows.{tabulate, rows}
 use Rattle.rules.specs.declared.Task.{Task}
@@ -8,133 +8,94 @@ use Rattle.rules.specs.Machine.{Slot, Tables, task_of, slot_of, waits, is_live, 
 use Rattle.line.specs.Print.{decimal}
 use Rattle.report.specs.Report.{spaced}
 
--- ---- the phrases, byte by byte
+-- ---- the phrases
 
--- "tasks "
 abbrev pub tasks_phrase : List ℕ
-tasks_phrase = 116 ∷ 97 ∷ 115 ∷ 107 ∷ 115 ∷ 32 ∷ []
+tasks_phrase = codes "tasks "
 
--- ", slots "
 abbrev pub slots_phrase : List ℕ
-slots_phrase = 44 ∷ 32 ∷ 115 ∷ 108 ∷ 111 ∷ 116 ∷ 115 ∷ 32 ∷ []
+slots_phrase = codes ", slots "
 
--- ", next task "
 abbrev pub next_phrase : List ℕ
-next_phrase = 44 ∷ 32 ∷ 110 ∷ 101 ∷ 120 ∷ 116 ∷ 32 ∷ 116 ∷ 97 ∷ 115 ∷ 107 ∷ 32 ∷ []
+next_phrase = codes ", next task "
 
--- "task "
 abbrev pub task_phrase : List ℕ
-task_phrase = 116 ∷ 97 ∷ 115 ∷ 107 ∷ 32 ∷ []
+task_phrase = codes "task "
 
--- ", priority "
 abbrev pub priority_phrase : List ℕ
-priority_phrase = 44 ∷ 32 ∷ 112 ∷ 114 ∷ 105 ∷ 111 ∷ 114 ∷ 105 ∷ 116 ∷ 121 ∷ 32 ∷ []
+priority_phrase = codes ", priority "
 
--- ": ready"
 abbrev pub ready_phrase : List ℕ
-ready_phrase = 58 ∷ 32 ∷ 114 ∷ 101 ∷ 97 ∷ 100 ∷ 121 ∷ []
+ready_phrase = codes ": ready"
 
--- ", its last wait timed out"
 abbrev pub timed_out_phrase : List ℕ
-timed_out_phrase =
-    44 ∷ 32 ∷ 105 ∷ 116 ∷ 115 ∷ 32 ∷ 108 ∷ 97 ∷ 115 ∷ 116 ∷ 32 ∷ 119 ∷ 97 ∷ 105 ∷ 116 ∷ 32 ∷ 116 ∷ 105 ∷ 109 ∷ 101 ∷ 100 ∷ 32 ∷ 111 ∷ 117
-    ∷ 116 ∷ []
+timed_out_phrase = codes ", its last wait timed out"
 
--- ", what it last waited on was deleted"
 abbrev pub deleted_phrase : List ℕ
-deleted_phrase =
-    44 ∷ 32 ∷ 119 ∷ 104 ∷ 97 ∷ 116 ∷ 32 ∷ 105 ∷ 116 ∷ 32 ∷ 108 ∷ 97 ∷ 115 ∷ 116 ∷ 32 ∷ 119 ∷ 97 ∷ 105 ∷ 116 ∷ 101 ∷ 100 ∷ 32 ∷ 111 ∷ 110
-    ∷ 32 ∷ 119 ∷ 97 ∷ 115 ∷ 32 ∷ 100 ∷ 101 ∷ 108 ∷ 101 ∷ 116 ∷ 101 ∷ 100 ∷ []
+deleted_phrase = codes ", what it last waited on was deleted"
 
--- ", its last wait was flushed"
 abbrev pub flushed_phrase : List ℕ
-flushed_phrase =
-    44 ∷ 32 ∷ 105 ∷ 116 ∷ 115 ∷ 32 ∷ 108 ∷ 97 ∷ 115 ∷ 116 ∷ 32 ∷ 119 ∷ 97 ∷ 105 ∷ 116 ∷ 32 ∷ 119 ∷ 97 ∷ 115 ∷ 32 ∷ 102 ∷ 108 ∷ 117 ∷ 115
-    ∷ 104 ∷ 101 ∷ 100 ∷ []
+flushed_phrase = codes ", its last wait was flushed"
 
--- ": waits on name "
 abbrev pub waits_phrase : List ℕ
-waits_phrase = 58 ∷ 32 ∷ 119 ∷ 97 ∷ 105 ∷ 116 ∷ 115 ∷ 32 ∷ 111 ∷ 110 ∷ 32 ∷ 110 ∷ 97 ∷ 109 ∷ 101 ∷ 32 ∷ []
+waits_phrase = codes ": waits on name "
 
--- " ("
 abbrev pub id_phrase : List ℕ
-id_phrase = 32 ∷ 40 ∷ []
+id_phrase = codes " ("
 
--- "), "
 abbrev pub close_phrase : List ℕ
-close_phrase = 41 ∷ 44 ∷ 32 ∷ []
+close_phrase = codes "), "
 
--- "for ever"
 abbrev pub for_ever_phrase : List ℕ
-for_ever_phrase = 102 ∷ 111 ∷ 114 ∷ 32 ∷ 101 ∷ 118 ∷ 101 ∷ 114 ∷ []
+for_ever_phrase = codes "for ever"
 
--- " ticks left"
 abbrev pub ticks_phrase : List ℕ
-ticks_phrase = 32 ∷ 116 ∷ 105 ∷ 99 ∷ 107 ∷ 115 ∷ 32 ∷ 108 ∷ 101 ∷ 102 ∷ 116 ∷ []
+ticks_phrase = codes " ticks left"
 
--- "ready, the longest first:"
 abbrev pub sequence_phrase : List ℕ
-sequence_phrase =
-    114 ∷ 101 ∷ 97 ∷ 100 ∷ 121 ∷ 44 ∷ 32 ∷ 116 ∷ 104 ∷ 101 ∷ 32 ∷ 108 ∷ 111 ∷ 110 ∷ 103 ∷ 101 ∷ 115 ∷ 116 ∷ 32 ∷ 102 ∷ 105 ∷ 114 ∷ 115 ∷ 116
-    ∷ 58 ∷ []
+sequence_phrase = codes "ready, the longest first:"
 
--- " nobody"
 abbrev pub nobody_phrase : List ℕ
-nobody_phrase = 32 ∷ 110 ∷ 111 ∷ 98 ∷ 111 ∷ 100 ∷ 121 ∷ []
+nobody_phrase = codes " nobody"
 
--- "semaphore "
 abbrev pub semaphore_phrase : List ℕ
-semaphore_phrase = 115 ∷ 101 ∷ 109 ∷ 97 ∷ 112 ∷ 104 ∷ 111 ∷ 114 ∷ 101 ∷ 32 ∷ []
+semaphore_phrase = codes "semaphore "
 
--- ", name "
 abbrev pub name_phrase : List ℕ
-name_phrase = 44 ∷ 32 ∷ 110 ∷ 97 ∷ 109 ∷ 101 ∷ 32 ∷ []
+name_phrase = codes ", name "
 
--- ", binary"
 abbrev pub binary_phrase : List ℕ
-binary_phrase = 44 ∷ 32 ∷ 98 ∷ 105 ∷ 110 ∷ 97 ∷ 114 ∷ 121 ∷ []
+binary_phrase = codes ", binary"
 
--- ", simple binary"
 abbrev pub simple_phrase : List ℕ
-simple_phrase = 44 ∷ 32 ∷ 115 ∷ 105 ∷ 109 ∷ 112 ∷ 108 ∷ 101 ∷ 32 ∷ 98 ∷ 105 ∷ 110 ∷ 97 ∷ 114 ∷ 121 ∷ []
+simple_phrase = codes ", simple binary"
 
--- ", counting"
 abbrev pub counting_phrase : List ℕ
-counting_phrase = 44 ∷ 32 ∷ 99 ∷ 111 ∷ 117 ∷ 110 ∷ 116 ∷ 105 ∷ 110 ∷ 103 ∷ []
+counting_phrase = codes ", counting"
 
--- ", FIFO: count "
 abbrev pub fifo_phrase : List ℕ
-fifo_phrase = 44 ∷ 32 ∷ 70 ∷ 73 ∷ 70 ∷ 79 ∷ 58 ∷ 32 ∷ 99 ∷ 111 ∷ 117 ∷ 110 ∷ 116 ∷ 32 ∷ []
+fifo_phrase = codes ", FIFO: count "
 
--- ", PRIORITY: count "
 abbrev pub order_phrase : List ℕ
-order_phrase = 44 ∷ 32 ∷ 80 ∷ 82 ∷ 73 ∷ 79 ∷ 82 ∷ 73 ∷ 84 ∷ 89 ∷ 58 ∷ 32 ∷ 99 ∷ 111 ∷ 117 ∷ 110 ∷ 116 ∷ 32 ∷ []
+order_phrase = codes ", PRIORITY: count "
 
--- ", PRIORITY, inheritance: count "
 abbrev pub inheritance_phrase : List ℕ
-inheritance_phrase =
-    44 ∷ 32 ∷ 80 ∷ 82 ∷ 73 ∷ 79 ∷ 82 ∷ 73 ∷ 84 ∷ 89 ∷ 44 ∷ 32 ∷ 105 ∷ 110 ∷ 104 ∷ 101 ∷ 114 ∷ 105 ∷ 116 ∷ 97 ∷ 110 ∷ 99 ∷ 101 ∷ 58
-    ∷ 32 ∷ 99 ∷ 111 ∷ 117 ∷ 110 ∷ 116 ∷ 32 ∷ []
+inheritance_phrase = codes ", PRIORITY, inheritance: count "
 
--- ", no owner"
 abbrev pub no_owner_phrase : List ℕ
-no_owner_phrase = 44 ∷ 32 ∷ 110 ∷ 111 ∷ 32 ∷ 111 ∷ 119 ∷ 110 ∷ 101 ∷ 114 ∷ []
+no_owner_phrase = codes ", no owner"
 
--- ", owner "
 abbrev pub owner_phrase : List ℕ
-owner_phrase = 44 ∷ 32 ∷ 111 ∷ 119 ∷ 110 ∷ 101 ∷ 114 ∷ 32 ∷ []
+owner_phrase = codes ", owner "
 
--- ", nest "
 abbrev pub nest_phrase : List ℕ
-nest_phrase = 44 ∷ 32 ∷ 110 ∷ 101 ∷ 115 ∷ 116 ∷ 32 ∷ []
+nest_phrase = codes ", nest "
 
--- ", maximum "
 abbrev pub maximum_phrase : List ℕ
-maximum_phrase = 44 ∷ 32 ∷ 109 ∷ 97 ∷ 120 ∷ 105 ∷ 109 ∷ 117 ∷ 109 ∷ 32 ∷ []
+maximum_phrase = codes ", maximum "
 
--- ", waiting:"
 abbrev pub waiting_phrase : List ℕ
-waiting_phrase = 44 ∷ 32 ∷ 119 ∷ 97 ∷ 105 ∷ 116 ∷ 105 ∷ 110 ∷ 103 ∷ 58 ∷ []
+waiting_phrase = codes ", waiting:"
 
 abbrev pub newline : List ℕ
 newline = 10 ∷ []

@@ -2,114 +2,106 @@
 ghost use Rattle.std.specs.Prelude.{suc, ◌≤◌, ◌<◌};
 ghost use Rattle.words.specs.Words.{word_at};
 ghost use Rattle.semaphore.specs.Record.{slot_from};
-ghost use Rattle.tables.specs.Layout.{model_of};
+ghost use Rattle.tables.specs.View.{seen};
 ghost use Rattle.calls.specs.Agreeing.{Agreeing};
 ghost use Rattle.shown.specs.Shown.{class_text, order_text, maximum_text, owner_text, kind_text, holders_text, slot_line, slot_lines};
 ghost use Rattle.shown.specs.Puts.{Puts};
 
-use super::writing;
+use super::writing::Text;
 use semaphore::Semaphore;
+use tables::View;
 
-fn put_class(out: &mut [u8], at: usize, attributes: u32) -> usize
-    ensures { Puts at (class_text attributes) out.old out.new result }
+fn put_class(text: &mut Text<'_>, attributes: u32)
+    ensures { Puts (class_text attributes) text.old text.new }
 {
     if rules::is_binary(attributes) {
-        return writing::put(out, at, b", binary");
+        text.put(b", binary");
+    } else if rules::is_simple(attributes) {
+        text.put(b", simple binary");
+    } else {
+        text.put(b", counting");
     }
-    if rules::is_simple(attributes) {
-        return writing::put(out, at, b", simple binary");
-    }
-    writing::put(out, at, b", counting")
 }
 
-fn put_order(out: &mut [u8], at: usize, attributes: u32) -> usize
-    ensures { Puts at (order_text attributes) out.old out.new result }
+fn put_order(text: &mut Text<'_>, attributes: u32)
+    ensures { Puts (order_text attributes) text.old text.new }
 {
     if attributes == rules::INHERITANCE {
-        return writing::put(out, at, b", PRIORITY, inheritance: count ");
+        text.put(b", PRIORITY, inheritance: count ");
+    } else if rules::is_by_priority(attributes) {
+        text.put(b", PRIORITY: count ");
+    } else {
+        text.put(b", FIFO: count ");
     }
-    if rules::is_by_priority(attributes) {
-        return writing::put(out, at, b", PRIORITY: count ");
-    }
-    writing::put(out, at, b", FIFO: count ")
 }
 
 // Of a counting semaphore alone: the maximum of both binary classes is 1.
-fn put_maximum(out: &mut [u8], at: usize, s: Semaphore) -> usize
-    ensures { Puts at (maximum_text (slot_from s)) out.old out.new result }
+fn put_maximum(text: &mut Text<'_>, s: Semaphore)
+    ensures { Puts (maximum_text (slot_from s)) text.old text.new }
 {
-    if rules::is_binary(s.attributes) {
-        return at;
+    if rules::is_binary(s.attributes) || rules::is_simple(s.attributes) {
+        return;
     }
-    if rules::is_simple(s.attributes) {
-        return at;
-    }
-    writing::put_numbered(out, at, b", maximum ", s.maximum)
+    text.put_numbered(b", maximum ", s.maximum);
 }
 
-fn put_owner(out: &mut [u8], at: usize, s: Semaphore) -> usize
-    ensures { Puts at (owner_text (slot_from s)) out.old out.new result }
+fn put_owner(text: &mut Text<'_>, s: Semaphore)
+    ensures { Puts (owner_text (slot_from s)) text.old text.new }
 {
     if !rules::is_binary(s.attributes) {
-        return at;
+        return;
     }
     if s.owner == 0 {
-        return writing::put(out, at, b", no owner");
+        text.put(b", no owner");
+    } else {
+        text.put_numbered(b", owner ", s.owner);
+        text.put_numbered(b", nest ", s.nest);
     }
-    let nest_at = writing::put_numbered(out, at, b", owner ", s.owner);
-    writing::put_numbered(out, nest_at, b", nest ", s.nest)
 }
 
 // The identifier, the name, the class, the order, the count and the maximum of the semaphore in slot n, counted from 1.
-fn put_kind(out: &mut [u8], at: usize, n: u32, s: Semaphore) -> usize
+fn put_kind(text: &mut Text<'_>, n: u32, s: Semaphore)
     requires { (n ≤ 64) × (s.generation ≤ 65535) }
-    ensures { Puts at (kind_text n (slot_from s)) out.old out.new result }
+    ensures { Puts (kind_text n (slot_from s)) text.old text.new }
 {
-    let id = s.generation * rules::GENERATION_UNIT + n;
-    let name_at = writing::put_numbered(out, at, b"semaphore ", id);
-    let class_at = writing::put_numbered(out, name_at, b", name ", s.name);
-    let order_at = put_class(out, class_at, s.attributes);
-    let count_at = put_order(out, order_at, s.attributes);
-    let maximum_at = writing::put_number(out, count_at, s.count);
-    put_maximum(out, maximum_at, s)
+    text.put_numbered(b"semaphore ", s.generation * rules::GENERATION_UNIT + n);
+    text.put_numbered(b", name ", s.name);
+    put_class(text, s.attributes);
+    put_order(text, s.attributes);
+    text.put_number(s.count);
+    put_maximum(text, s);
 }
 
 // Who owns it, and who waits on it.
-fn put_holders(out: &mut [u8], at: usize, s: Semaphore) -> usize
+fn put_holders(text: &mut Text<'_>, s: Semaphore)
     requires { s.waiters ≤ 32 }
-    ensures { Puts at (holders_text (slot_from s)) out.old out.new result }
+    ensures { Puts (holders_text (slot_from s)) text.old text.new }
 {
-    let waiting_at = put_owner(out, at, s);
-    let tasks_at = writing::put(out, waiting_at, b", waiting:");
+    put_owner(text, s);
+    text.put(b", waiting:");
     let queue = s.queue;
-    let waiters = s.waiters as usize;
-    let end = writing::put_tasks(out, tasks_at, &queue[..waiters]);
-    writing::put(out, end, b"\n")
+    text.put_tasks(&queue[..s.waiters as usize]);
+    text.put(b"\n");
 }
 
 // The line of slot i, if a semaphore lives there.
-fn print_slot(m: &[u8], out: &mut [u8], at: usize, i: usize) -> usize
-    requires { Agreeing m.now × (i < word_at m.now 1) }
-    ensures { Puts at (slot_line (model_of m.now) (suc i)) out.old out.new result }
+fn put_slot(v: View<'_>, text: &mut Text<'_>, i: usize)
+    requires { Agreeing v.bytes.now × (i < word_at v.bytes.now 1) }
+    ensures { Puts (slot_line (seen v.entry) (suc i)) text.old text.new }
 {
-    let s = tables::load_slot(m, i);
+    let s = v.slot(i);
     if s.live != 1 {
-        return at;
+        return;
     }
-    let holders_at = put_kind(out, at, (i + 1) as u32, s);
-    put_holders(out, holders_at, s)
+    put_kind(text, (i + 1) as u32, s);
+    put_holders(text, s);
 }
 
-pub fn print_semaphores(m: &[u8], out: &mut [u8], at: usize) -> usize
-    requires { Agreeing m.now }
-    ensures { Puts at (slot_lines (model_of m.now)) out.old out.new result }
+pub fn put_semaphores(v: View<'_>, text: &mut Text<'_>)
+    requires { Agreeing v.bytes.now }
+    ensures { Puts (slot_lines (seen v.entry)) text.old text.new }
 {
-    let n = tables::slot_count(m) as usize;
-    let mut end = at;
-    let mut i = 0;
-    while i < n {
-        end = print_slot(m, out, end, i);
-        i += 1;
+    for i in 0..v.slot_count() {
+        put_slot(v, text, i as usize);
     }
-    end
 }

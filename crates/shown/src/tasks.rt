@@ -2,97 +2,86 @@
 ghost use Rattle.std.specs.Prelude.{◌≡◌, suc, ◌<◌};
 ghost use Rattle.words.specs.Words.{word_at};
 ghost use Rattle.rules.specs.Machine.{slot_of};
-ghost use Rattle.tables.specs.Layout.{model_of};
-ghost use Rattle.tables.specs.Sizes.{Sized};
+ghost use Rattle.tables.specs.View.{seen};
 ghost use Rattle.shown.specs.Shown.{ending_text, ticks_text, wait_text, state_text, task_line, task_lines};
 ghost use Rattle.shown.specs.Puts.{Puts};
 
-use super::writing;
+use super::writing::Text;
 use rules::Task;
+use tables::View;
 
 // How the latest wait ended.
-fn put_ending(out: &mut [u8], at: usize, answer: u32) -> usize
-    ensures { Puts at (ending_text answer) out.old out.new result }
+fn put_ending(text: &mut Text<'_>, answer: u32)
+    ensures { Puts (ending_text answer) text.old text.new }
 {
     if answer == rules::TIMEOUT {
-        return writing::put(out, at, b", its last wait timed out");
+        text.put(b", its last wait timed out");
+    } else if answer == rules::OBJECT_WAS_DELETED {
+        text.put(b", what it last waited on was deleted");
+    } else if answer == rules::UNSATISFIED {
+        text.put(b", its last wait was flushed");
     }
-    if answer == rules::OBJECT_WAS_DELETED {
-        return writing::put(out, at, b", what it last waited on was deleted");
-    }
-    if answer == rules::UNSATISFIED {
-        return writing::put(out, at, b", its last wait was flushed");
-    }
-    at
 }
 
-fn put_ticks(out: &mut [u8], at: usize, ticks: u32) -> usize
-    ensures { Puts at (ticks_text ticks) out.old out.new result }
+fn put_ticks(text: &mut Text<'_>, ticks: u32)
+    ensures { Puts (ticks_text ticks) text.old text.new }
 {
     if ticks == 0 {
-        return writing::put(out, at, b"for ever");
+        text.put(b"for ever");
+    } else {
+        text.put_number(ticks);
+        text.put(b" ticks left");
     }
-    let end = writing::put_number(out, at, ticks);
-    writing::put(out, end, b" ticks left")
 }
 
 // The name in a slot's place, 0 for a number above S.
-fn name_of(m: &[u8], n: u32) -> u32
-    requires { Sized m.now }
-    ensures { result ≡ (slot_of (model_of m.now) n).name }
+fn name_of(v: View<'_>, n: u32) -> u32
+    ensures { result ≡ (slot_of (seen v.entry) n).name }
 {
-    let s = tables::slot_count(m);
     let i = lookup::index_of(n);
-    if s <= i {
+    if v.slot_count() <= i {
         return 0;
     }
-    tables::slot_name(m, i as usize)
+    v.slot_name(i as usize)
 }
 
-fn put_wait(m: &[u8], out: &mut [u8], at: usize, v: Task) -> usize
-    requires { Sized m.now }
-    ensures { Puts at (wait_text (model_of m.now) v) out.old out.new result }
+fn put_wait(v: View<'_>, text: &mut Text<'_>, task: Task)
+    ensures { Puts (wait_text (seen v.entry) task) text.old text.new }
 {
-    let name = name_of(m, v.awaited % rules::GENERATION_UNIT);
-    let id_at = writing::put_numbered(out, at, b": waits on name ", name);
-    let close_at = writing::put_numbered(out, id_at, b" (", v.awaited);
-    let ticks_at = writing::put(out, close_at, b"), ");
-    put_ticks(out, ticks_at, v.ticks)
+    let name = name_of(v, task.awaited % rules::GENERATION_UNIT);
+    text.put_numbered(b": waits on name ", name);
+    text.put_numbered(b" (", task.awaited);
+    text.put(b"), ");
+    put_ticks(text, task.ticks);
 }
 
 // Whether the task waits, and on what, or how its latest wait ended.
-fn put_state(m: &[u8], out: &mut [u8], at: usize, v: Task) -> usize
-    requires { Sized m.now }
-    ensures { Puts at (state_text (model_of m.now) v) out.old out.new result }
+fn put_state(v: View<'_>, text: &mut Text<'_>, task: Task)
+    ensures { Puts (state_text (seen v.entry) task) text.old text.new }
 {
-    if v.answer == rules::WAITING {
-        return put_wait(m, out, at, v);
+    if task.answer == rules::WAITING {
+        put_wait(v, text, task);
+    } else {
+        text.put(b": ready");
+        put_ending(text, task.answer);
     }
-    let ending_at = writing::put(out, at, b": ready");
-    put_ending(out, ending_at, v.answer)
 }
 
-fn print_task(m: &[u8], out: &mut [u8], at: usize, i: usize) -> usize
-    requires { Sized m.now × (i < word_at m.now 0) }
-    ensures { Puts at (task_line (model_of m.now) (suc i)) out.old out.new result }
+fn put_task(v: View<'_>, text: &mut Text<'_>, i: usize)
+    requires { i < word_at v.bytes.now 0 }
+    ensures { Puts (task_line (seen v.entry) (suc i)) text.old text.new }
 {
-    let v = tables::load_task(m, i);
-    let priority_at = writing::put_numbered(out, at, b"task ", (i + 1) as u32);
-    let state_at = writing::put_numbered(out, priority_at, b", priority ", v.priority);
-    let end = put_state(m, out, state_at, v);
-    writing::put(out, end, b"\n")
+    let task = v.task(i);
+    text.put_numbered(b"task ", (i + 1) as u32);
+    text.put_numbered(b", priority ", task.priority);
+    put_state(v, text, task);
+    text.put(b"\n");
 }
 
-pub fn print_tasks(m: &[u8], out: &mut [u8], at: usize) -> usize
-    requires { Sized m.now }
-    ensures { Puts at (task_lines (model_of m.now)) out.old out.new result }
+pub fn put_tasks(v: View<'_>, text: &mut Text<'_>)
+    ensures { Puts (task_lines (seen v.entry)) text.old text.new }
 {
-    let n = tables::task_count(m) as usize;
-    let mut end = at;
-    let mut i = 0;
-    while i < n {
-        end = print_task(m, out, end, i);
-        i += 1;
+    for i in 0..v.task_count() {
+        put_task(v, text, i as usize);
     }
-    end
 }

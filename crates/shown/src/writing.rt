@@ -1,55 +1,74 @@
 // Text put where there is room for it.
-ghost use Rattle.line.specs.Print.{decimal};
-ghost use Rattle.report.specs.Report.{spaced};
-ghost use Rattle.shown.specs.Shown.{numbered, tasks_text};
-ghost use Rattle.shown.specs.Puts.{Puts};
+ghost use Rattle.std.specs.Prelude.{◌≤◌};
+ghost use Rattle.std.proofs.Math.ListN.{length as size};
 
-// Writes `text` at `at` if there is room, and returns where it ends.
-pub fn put(out: &mut [u8], at: usize, text: &[u8]) -> usize
-    ensures { Puts at text.now out.old out.new result }
-{
-    if out.len() < at {
-        return at;
-    }
-    if out.len() - at < text.len() {
-        return at;
-    }
-    line::put(out, at, text)
+use itoa::Buffer;
+
+/// The text at the front of lent bytes. What has no room is left out.
+#[derive(Drop)]
+pub struct Text<'a> {
+    bytes: &'a mut [u8],
+    pub end: usize,
+    ghost within: { end ≤ size bytes.now },
 }
 
-pub fn put_number(out: &mut [u8], at: usize, v: u32) -> usize
-    ensures { Puts at (decimal v) out.old out.new result }
-{
-    let t = line::text_of(v, 0);
-    let bytes = t.bytes;
-    let from = t.from;
-    put(out, at, &bytes[from..10])
-}
+impl<'a> Text<'a> {
+    ghost use Rattle.std.specs.Prelude.{◌≡◌};
+    ghost use Rattle.line.specs.Print.{decimal};
+    ghost use Rattle.report.specs.Report.{spaced};
+    ghost use Rattle.shown.specs.Shown.{numbered, tasks_text};
+    ghost use Rattle.shown.specs.Puts.{Puts};
 
-pub fn put_numbered(out: &mut [u8], at: usize, phrase: &[u8], v: u32) -> usize
-    ensures { Puts at (numbered phrase.now v) out.old out.new result }
-{
-    let number_at = put(out, at, phrase);
-    put_number(out, number_at, v)
-}
-
-fn put_spaced(out: &mut [u8], at: usize, ns: &[u32]) -> usize
-    ensures { Puts at (spaced ns.now) out.old out.new result }
-{
-    let mut end = at;
-    let mut i = 0;
-    while i < ns.len() {
-        end = put_numbered(out, end, b" ", ns[i]);
-        i += 1;
+    /// No text yet.
+    pub fn new(bytes: &'a mut [u8]) -> Text<'a>
+        ensures end { result.end ≡ 0 }
+        ensures bytes { result.bytes.now ≡ bytes.old }
+        ensures loan { result.bytes.ghost_name ≡ bytes.entry.ghost_name }
+    {
+        Text { bytes, end: 0 }
     }
-    end
-}
 
-pub fn put_tasks(out: &mut [u8], at: usize, tasks: &[u32]) -> usize
-    ensures { Puts at (tasks_text tasks.now) out.old out.new result }
-{
-    if tasks.len() == 0 {
-        return put(out, at, b" nobody");
+    /// Puts `text` at the end, if there is room.
+    pub fn put(&mut self, text: &[u8])
+        ensures { Puts text.now self.old self.new }
+    {
+        if self.bytes.len() - self.end < text.len() {
+            return;
+        }
+        let bytes = &mut *self.bytes;
+        self.end = line::put(bytes, self.end, text);
     }
-    put_spaced(out, at, tasks)
+
+    pub fn put_number(&mut self, v: u32)
+        ensures { Puts (decimal v) self.old self.new }
+    {
+        self.put(Buffer::new().format(v).as_bytes());
+    }
+
+    /// A phrase and a number behind it.
+    pub fn put_numbered(&mut self, phrase: &[u8], v: u32)
+        ensures { Puts (numbered phrase.now v) self.old self.new }
+    {
+        self.put(phrase);
+        self.put_number(v);
+    }
+
+    fn put_spaced(&mut self, ns: &[u32])
+        ensures { Puts (spaced ns.now) self.old self.new }
+    {
+        for n in ns {
+            self.put_numbered(b" ", *n);
+        }
+    }
+
+    /// Tasks behind a space each, or that there is nobody.
+    pub fn put_tasks(&mut self, tasks: &[u32])
+        ensures { Puts (tasks_text tasks.now) self.old self.new }
+    {
+        if tasks.is_empty() {
+            self.put(b" nobody");
+        } else {
+            self.put_spaced(tasks);
+        }
+    }
 }

@@ -1,11 +1,11 @@
 -- How long the file of agreeing tables is: each task stands once, in a queue or in the sequence of ready tasks.
-use mathlib.Core.Path.{◌≡◌, refl}
+use mathlib.Core.Path.{◌≡◌, refl, subst, sym, ap, ◌∙◌}
 use mathlib.Core.Bool.{true}
 use mathlib.Core.List.{List, [], ◌∷◌, map}
 use Prim.Native.Nat.{ℕ, ◌+◌, ◌-◌, ◌*◌, ◌≤◌}
 use native.Mathlib.Omega.{arith}
 use lib.ListN.{length, replicate, length-append, get_or-replicate}
-use borrow.Author.Tests.{leb-true}
+use borrow.Author.Tests.{leb-true, le-leb}
 use Rattle.laws.specs.Choose.{choose}
 use Rattle.laws.specs.Rows.{rows}
 use Rattle.words.specs.Words.{word_at}
@@ -23,6 +23,7 @@ use Rattle.calls.specs.Agreeing.{Agreeing}
 use Rattle.calls.proofs.Agreeing.{sized}
 use Rattle.state.specs.declared.contents.Counts.{Counts}
 use Rattle.state.specs.File.{is_started, second_edition, queue_row, queues_body, state_file, longest_file}
+use Rattle.state.specs.Reading.{file_end}
 use Rattle.state.specs.Shape.{Small, counts_of}
 use Rattle.state.proofs.File.{length_file}
 use Rattle.state.proofs.Editions.{eight}
@@ -63,6 +64,15 @@ module _ (t : Tables) (a : Agrees t) where
         queues = omega (arith, s.tasks, s.slots, queues_length);
         ready = omega (arith, s.tasks, standing t a);
       }
+
+-- the counts that a write goes by, where there are tasks
+module _ {bs : List ℕ} (g : Agreeing bs) (c : Counts) (e : c ≡ counts_of second_edition (model_of bs)) where
+  pub small_counts : (length (model_of bs).tasks ≡ 0 → ⊥) → Small c
+  small_counts some = subst Small (sym e) (counts_small (model_of bs) g.agrees (le-leb 1 (length (model_of bs).tasks) (omega arith)))
+
+  pub file_counted : (n : ℕ) → n ≡ file_end c → 4 * n ≡ length (state_file (model_of bs))
+  file_counted n f =
+      ap (λ (k : ℕ). 4 * k) (f ∙ ap (λ (k : Counts). file_end k) e) ∙ sym (length_file second_edition (model_of bs))
 
 -- the counts that code reads from agreeing bytes
 module _ {bs : List ℕ} (g : Agreeing bs) where

@@ -2,6 +2,7 @@ pub mod Editions
 pub mod File
 pub mod Stands
 pub mod Round
+pub mod Refused
 pub mod Shape
 pub mod Held
 pub mod Exact

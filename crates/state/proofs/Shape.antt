@@ -1,6 +1,6 @@
 -- What the tests of a file's contents and queues say, step by step, and what passes them.
 use mathlib.Core.Path.{◌≡◌, sym, subst, ap, ◌∙◌}
-use mathlib.Core.Bool.{Bool, true, false}
+use mathlib.Core.Bool.{Bool, true}
 use mathlib.Core.List.{List, [], ◌∷◌, ◌++◌, map}
 use Prim.Native.Nat.{ℕ, zero, suc, ◌+◌, ◌*◌, ◌/◌, ◌≤◌, ◌<◌}
 use native.Mathlib.Omega.{arith}
@@ -13,7 +13,7 @@ use Rattle.laws.specs.Rows.{rows}
 use Rattle.laws.proofs.Fit.{length_tabulate}
 use Rattle.words.specs.Words.{word_at, same_words}
 use Rattle.rules.specs.Machine.{Slot, free_slot}
-use Rattle.tables.specs.Layout.{row_at}
+use Rattle.tables.specs.Record.{row_at}
 use Rattle.state.specs.declared.contents.Counts.{Counts}
 use Rattle.state.specs.File.{queue_row}
 use Rattle.state.specs.Reading.{slot_numbers, slots_in, counts_in, file_end, slot_of_row, slots_from}
@@ -51,44 +51,10 @@ small_true c s =
     (both_and (both_and (le-leb _ _ s.some) (le-leb _ _ s.tasks))
     (both_and (le-leb _ _ s.slots) (both_and (le-leb _ _ s.queues) (le-leb _ _ s.ready))))
 
--- each test behind those that held
-module _ (c : Counts) where
-  pub no_edition : c.edition < 1 → false ≡ is_small c
-  no_edition h = search cases
-
-  pub late_edition : 1 ≤ c.edition → 2 < c.edition → false ≡ is_small c
-  late_edition l h = search cases
-
-  module _ (first : 1 ≤ c.edition) (last : c.edition ≤ 2) where
-    pub no_task_lem : c.tasks ≡ 0 → false ≡ is_small c
-    no_task_lem e = let h : c.tasks < 1 = omega arith in search cases
-
-    module _ (some : c.tasks ≡ 0 → ⊥) where
-      least : 1 ≤ c.tasks
-      least = omega arith
-
-      pub many_tasks : 32 < c.tasks → false ≡ is_small c
-      many_tasks h = let l : 1 ≤ c.tasks = least in search cases
-
-      module _ (tasks : c.tasks ≤ 32) where
-        pub many_slots : 64 < c.slots → false ≡ is_small c
-        many_slots h = let l : 1 ≤ c.tasks = least in search cases
-
-        module _ (slots : c.slots ≤ 64) where
-          pub many_queues : 2112 < c.queues → false ≡ is_small c
-          many_queues h = let l : 1 ≤ c.tasks = least in search cases
-
-          pub ready_tested : c.queues ≤ 2112 → leb c.ready 32 ≡ is_small c
-          ready_tested h = let l : 1 ≤ c.tasks = least in search cases
-
 -- ---- the test of the contents, in its order
 
 abbrev headed_by : List ℕ → Counts → Bool
 headed_by bs c = leb 56 (length bs) and is_small c and eqb (length bs) (4 * file_end c) and same_words bs 0 (contents_for c)
-
-pub too_short : (bs : List ℕ) → length bs < 56 → false ≡ is_headed bs
-unfolding is_headed
-too_short bs h = search cases
 
 -- by the counts that were read
 module _ (bs : List ℕ) (c : Counts) (e : c ≡ counts_in bs) (long : 56 ≤ length bs) where
@@ -96,14 +62,8 @@ module _ (bs : List ℕ) (c : Counts) (e : c ≡ counts_in bs) (long : 56 ≤ le
   unfolding is_headed
   tested r f = f ∙ ap (headed_by bs) e
 
-  pub not_small : is_small c ≡ false → false ≡ is_headed bs
-  not_small f = tested false (search cases)
-
-  pub wrong_length : is_small c ≡ true → (length bs ≡ 4 * file_end c → ⊥) → false ≡ is_headed bs
-  wrong_length s n = tested false (search cases)
-
-  pub contents_tested : is_small c ≡ true → length bs ≡ 4 * file_end c → (r : Bool) → r ≡ same_words bs 0 (contents_for c) → r ≡ is_headed bs
-  contents_tested s n r f = tested r (search cases)
+  pub small_tested : is_small c ≡ true → (r : Bool) → r ≡ (eqb (length bs) (4 * file_end c) and same_words bs 0 (contents_for c)) → r ≡ is_headed bs
+  small_tested s r f = tested r (search cases)
 
 -- contents for small counts, and bytes that end where these say
 pub record Headed (bs : List ℕ) : Type 0 where

@@ -2,8 +2,10 @@
 use mathlib.Core.Path.{◌≡◌, sym, ap, ◌∙◌}
 use mathlib.Core.Bool.{true, false}
 use mathlib.Core.List.{List}
-use Prim.Native.Nat.{ℕ}
-use Rattle.laws.proofs.Choose.{if_yes, if_no}
+use mathlib.Core.Logic.{⊎_elim}
+use Prim.Native.Nat.{ℕ, ◌≤◌}
+use native.Mathlib.Omega.{arith}
+use Rattle.laws.proofs.Choose.{if_yes, if_no, tested}
 use Rattle.words.proofs.WordsInBytes.{Bytes}
 use Rattle.rules.specs.Machine.{Tables}
 use Rattle.rules.specs.Agreement.{agrees}
@@ -12,7 +14,8 @@ use Rattle.tables.proofs.LayoutRead.{model_of_laid}
 use Rattle.tables.proofs.LayoutTest.{is_laid_laid}
 use Rattle.agreement.specs.Bytes.{agrees_bytes}
 use Rattle.state.specs.Reading.{tables_in, is_state}
-use Rattle.state.specs.Shape.{is_headed, is_filled}
+use Rattle.state.specs.Shape.{is_headed, is_filled, unless_invalid}
+use Rattle.state.proofs.Refused.{invalid, valid}
 use Rattle.state.proofs.Held.{held}
 use Rattle.state.proofs.Exact.{exact}
 
@@ -23,6 +26,12 @@ module _ (bs : List ℕ) (b : Bytes bs) where
   module _ (h : is_headed bs ≡ true) where
     pub other_queues : is_filled bs ≡ false → is_state bs ≡ false
     other_queues f = exact bs b ∙ if_yes _ _ h ∙ if_no _ _ f
+
+    -- and so is their refusal
+    pub queues_refused : (n : ℕ) → n ≡ unless_invalid (is_filled bs) → 1 ≤ n → n ≡ unless_invalid (is_state bs)
+    queues_refused n e some =
+        ⊎_elim (λ (y : is_filled bs ≡ true). absurd (omega (arith, e ∙ sym (valid _ y)))) (λ (f : is_filled bs ≡ false). e ∙ sym (invalid _ f) ∙ invalid _ (other_queues f))
+        (tested (is_filled bs))
 
     -- the tables that were filled agree exactly where the file is one
     pub filled_agree : is_filled bs ≡ true → (m : List ℕ) → m ≡ laid (tables_in bs) → agrees_bytes m ≡ is_state bs

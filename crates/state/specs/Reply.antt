@@ -1,5 +1,5 @@
 -- What a write and a read answer, and what they leave, on lent bytes of any length and content.
-use Rattle.std.specs.Prelude.{List, ◌++◌, ℕ, leb, length, drop}
+use Rattle.std.specs.Prelude.{List, ◌++◌, ℕ, leb, length, drop, Result, Ok, Err}
 use Rattle.laws.specs.Choose.{choose}
 use Rattle.rules.specs.Numbers.{successful, invalid_size, incorrect_state}
 use Rattle.rules.specs.Machine.{Tables}
@@ -9,7 +9,13 @@ use Rattle.agreement.specs.Bytes.{agrees_bytes}
 use Rattle.manager.specs.Entry.{no_next}
 use Rattle.state.specs.File.{is_started, state_file}
 use Rattle.state.specs.Reading.{tables_in, is_state}
+use Rattle.rules.specs.declared.refusal.Refusal.{Refusal}
 pub use Rattle.calls.specs.Reply.{Reply, reply, Replied}
+
+-- the value of a read or a write: 0 with a refusal
+abbrev pub value : Result ℕ Refusal → ℕ
+value (Ok n) = n
+value (Err e) = 0
 
 -- ---- write: 25, then 14 for a machine not started, then 8 for a buffer shorter than the file
 

@@ -1,14 +1,18 @@
 -- The test of a file in the order of the code: its contents and its length first, its queues while they are read, agreement last. And what a write asks.
 use Rattle.std.specs.Prelude.{◌≡◌, Bool, List, [], ◌∷◌, ℕ, zero, suc, ◌+◌, ◌*◌, ◌≤◌, leb, eqb, length, get_or}
 use Rattle.std.proofs.lemmas.List.Edits.{sets}
-use Rattle.laws.specs.Choose.{◌and◌}
+use Rattle.laws.specs.Choose.{choose, ◌and◌}
 use Rattle.words.specs.Words.{bytes_of, word_at, same_words}
-use Rattle.rules.specs.Numbers.{max_tasks, max_slots, within}
+use Rattle.rules.specs.Numbers.{max_tasks, max_slots, within, successful, invalid_size}
 use Rattle.rules.specs.Machine.{Tables}
 use Rattle.tables.specs.declared.Head.{Head}
 use Rattle.state.specs.declared.contents.Counts.{Counts}
 use Rattle.state.specs.File.{first_edition, second_edition, queues_body}
 use Rattle.state.specs.Reading.{slot_numbers, counts_in, queues_start, ready_start, file_end, maximum_of_row, is_edition}
+
+-- the status of a test that refuses by 8
+abbrev pub unless_invalid : Bool → ℕ
+unless_invalid valid = choose valid successful invalid_size
 
 -- ---- contents
 

@@ -1,11 +1,12 @@
 // The table of contents, and what follows from it. A file's numbers are counted from 0, four bytes each.
-ghost use Rattle.std.specs.Prelude.{◌≡◌, true, ◌≤◌, length};
+ghost use Rattle.std.specs.Prelude.{◌≡◌, ◌*◌, ◌≤◌, eqb, length};
+ghost use Rattle.laws.specs.Choose.{◌and◌};
 ghost use Rattle.state.specs.Reading.{slot_numbers, slots_in, counts_in, slots_start, queues_start, ready_start, file_end};
 ghost use Rattle.state.specs.Shape.{Small, is_small, contents_for, is_headed, HasRoom, Written};
 ghost use Rattle.words.specs.Words.{same_words};
 
 // The edition; tasks, slots, the numbers of body 3, and ready tasks.
-#[derive(Clone, Copy)]
+#[derive(Clone, Copy, Debug, PartialEq, Eq)]
 pub struct Counts {
     pub edition: u32,
     pub tasks: u32,
@@ -36,26 +37,31 @@ const QUEUES_LENGTH: usize = 10;
 const READY_LENGTH: usize = 13;
 
 // How many numbers the records of so many slots are.
+#[tactic(auto, using(laws::proofs::Choose::cases), unfolding(crate::specs::Reading::slot_numbers))]
 pub fn slot_numbers(edition: u32, slots: u32) -> u32
     requires { slots ≤ 64 }
     ensures { result ≡ slot_numbers edition slots }
 {
     if edition == FIRST_EDITION {
-        return 7 * slots;
+        7 * slots
+    } else {
+        8 * slots
     }
-    8 * slots
 }
 
 // And of how many slots a body 2 of that length is.
+#[tactic(auto, using(laws::proofs::Choose::cases), unfolding(crate::specs::Reading::slots_in))]
 fn slots_in(edition: u32, length: u32) -> u32
     ensures { result ≡ slots_in edition length }
 {
     if edition == FIRST_EDITION {
-        return length / 28;
+        length / 28
+    } else {
+        length / 32
     }
-    length / 32
 }
 
+#[tactic(auto, using(crate::proofs::Editions::numbers_few))]
 fn row(c: Counts) -> [u32; 14]
     requires { Small c }
     ensures { result ≡ contents_for c }
@@ -96,6 +102,7 @@ pub fn queues_start(c: Counts) -> usize
     slots_start(c) + slot_numbers(c.edition, c.slots) as usize
 }
 
+#[tactic(auto, using(crate::proofs::Editions::numbers_few))]
 pub fn ready_start(c: Counts) -> usize
     requires { Small c }
     ensures { result ≡ ready_start c }
@@ -103,6 +110,7 @@ pub fn ready_start(c: Counts) -> usize
     queues_start(c) + c.queues as usize
 }
 
+#[tactic(auto, using(crate::proofs::Editions::numbers_few))]
 pub fn file_end(c: Counts) -> usize
     requires { Small c }
     ensures { result ≡ file_end c }
@@ -114,8 +122,7 @@ pub fn write(file: &mut [u8], c: Counts)
     requires { Small c × HasRoom 0 (contents_for c) file.old }
     ensures { Written 0 (contents_for c) file.old file.new }
 {
-    let numbers = row(c);
-    words::set_words(file, 0, &numbers);
+    words::set_words(file, 0, &row(c));
 }
 
 // What the contents say, right or wrong.
@@ -133,39 +140,30 @@ pub fn counts_in(file: &[u8]) -> Counts
     }
 }
 
+#[tactic(auto, using(laws::proofs::Choose::cases))]
 fn is_small(c: Counts) -> bool
     ensures { result ≡ is_small c }
 {
-    if c.edition < FIRST_EDITION {
-        return false;
-    }
-    if SECOND_EDITION < c.edition {
-        return false;
-    }
-    if c.tasks == 0 {
-        return false;
-    }
-    if rules::MAX_TASKS < c.tasks {
-        return false;
-    }
-    if rules::MAX_SLOTS < c.slots {
-        return false;
-    }
-    if MOST_QUEUES < c.queues {
-        return false;
-    }
-    c.ready <= rules::MAX_TASKS
+    FIRST_EDITION <= c.edition
+        && c.edition <= SECOND_EDITION
+        && 1 <= c.tasks
+        && c.tasks <= rules::MAX_TASKS
+        && c.slots <= rules::MAX_SLOTS
+        && c.queues <= MOST_QUEUES
+        && c.ready <= rules::MAX_TASKS
 }
 
+// Whether they end where the file does, and are the contents that such a file has.
+#[tactic(auto, using(laws::proofs::Choose::cases, crate::proofs::Editions::numbers_few))]
 fn is_contents(file: &[u8], c: Counts) -> bool
     requires { Small c × (56 ≤ length file.now) }
-    ensures { result ≡ same_words file.now 0 (contents_for c) }
+    ensures { result ≡ (eqb (length file.now) (4 * file_end c) and same_words file.now 0 (contents_for c)) }
 {
-    let numbers = row(c);
-    words::are_words(file, 0, &numbers)
+    file.len() == 4 * file_end(c) && words::are_words(file, 0, &row(c))
 }
 
-// Whether the contents are those of a file of this length.
+/// Whether the contents are those of a file of this length.
+#[tactic(auto, using(laws::proofs::Choose::cases), unfolding(crate::specs::Shape::is_headed))]
 pub fn is_headed(file: &[u8]) -> bool
     ensures { result ≡ is_headed file.now }
 {
@@ -173,11 +171,5 @@ pub fn is_headed(file: &[u8]) -> bool
         return false;
     }
     let c = counts_in(file);
-    if !is_small(c) {
-        return false;
-    }
-    if file.len() != 4 * file_end(c) {
-        return false;
-    }
-    is_contents(file, c)
+    is_small(c) && is_contents(file, c)
 }

@@ -17,13 +17,12 @@ use Rattle.rules.specs.Calls.{up_to}
 use Rattle.semaphore.specs.declared.Semaphore.{Semaphore}
 use Rattle.semaphore.specs.Record.{slot_from, Padded}
 use Rattle.tables.specs.declared.Head.{Head}
-use Rattle.tables.specs.Codec.{task_row, slot_row, record_row}
+use Rattle.tables.specs.Codec.{task_row, head_row, slot_row, record_row}
 use Rattle.tables.specs.Layout.{tables_length, task_place, slot_place, ready_place, sequence_place, layout, laid, record_at, slot_with, queue_of}
 use Rattle.tables.proofs.LayoutWords.{words, task_places, slot_places, sequence_row, tasks_long, slots_long, length_words, set_task, set_slot, set_row}
 use Rattle.tables.proofs.LayoutWords.{no_slot_word, length_layout, length_slot_row, task_word, slot_word, ready_word, sequence_word}
 use Rattle.tables.proofs.LayoutWords.{by_place}
 use Rattle.tables.proofs.LayoutRead.{length_laid, laid_words, record_laid, ready_laid}
-use Rattle.tables.proofs.LoadStore.{head_row}
 
 -- a row stored in the bytes is stored in the words
 store_words : (t : Tables) (k : ℕ) (r : List ℕ) → k + length r ≤ 2787 → sets (laid t) (4 * k) (bytes_of r) ≡ bytes_of (sets (layout t) k r)

@@ -1,3 +1,5 @@
 pub mod Codec
+pub mod Record
 pub mod Layout
 pub mod Sizes
+pub mod View

@@ -11,8 +11,13 @@ ghost use Rattle.tables.specs.Layout.{tables_length, task_place, slot_place, rea
 ghost use Rattle.tables.specs.Layout.{is_queue_laid, is_sequence_laid, is_laid};
 ghost use Rattle.laws.specs.All.{all};
 
+pub use record::{Record, load, load_row, store};
 use rules::Task;
 use semaphore::Semaphore;
+pub use view::View;
+
+mod record;
+mod view;
 
 pub const TABLES_LENGTH: usize = 11148;
 
@@ -57,7 +62,7 @@ const WAITERS: usize = 8;
 const QUEUE: usize = 9;
 
 // The words of a slot before its queue, for those who read the queue where it lies.
-#[derive(Clone, Copy)]
+#[derive(Clone, Copy, Debug, PartialEq, Eq)]
 pub struct Head {
     pub generation: u32,
     pub live: u32,
@@ -68,6 +73,24 @@ pub struct Head {
     pub nest: u32,
     pub maximum: u32,
     pub waiters: u32,
+}
+
+impl From<Semaphore> for Head {
+    fn from(s: Semaphore) -> Head
+        ensures { result ≡ head_of s }
+    {
+        Head {
+            generation: s.generation,
+            live: s.live,
+            name: s.name,
+            attributes: s.attributes,
+            count: s.count,
+            owner: s.owner,
+            nest: s.nest,
+            maximum: s.maximum,
+            waiters: s.waiters,
+        }
+    }
 }
 
 // N, the number of tasks.
@@ -94,14 +117,7 @@ pub fn store_counts(m: &mut [u8], tasks: u32, slots: u32)
     words::set_words(m, 0, &row);
 }
 
-// Word k of a task's row, and of a slot's.
-fn task_word(m: &[u8], i: usize, k: usize) -> u32
-    requires { (length m.now ≡ tables_length) × (i < 32) × (k < 4) }
-    ensures { result ≡ get_or (task_row (task_at m.now i)) k 0 }
-{
-    words::word(m, TASKS_AT + TASK_WORDS * i + k)
-}
-
+// Word k of a slot's row.
 fn slot_word(m: &[u8], i: usize, k: usize) -> u32
     requires { (4 * (slot_place i + k) + 4 ≤ length m.now) × (i < 64) × (k < 41) }
     ensures { result ≡ get_or (record_row (record_at m.now i)) k 0 }
@@ -109,24 +125,19 @@ fn slot_word(m: &[u8], i: usize, k: usize) -> u32
     words::word(m, SLOTS_AT + SLOT_WORDS * i + k)
 }
 
+#[tactic(auto, unfolding(crate::specs::Layout::task_at))]
 pub fn load_task(m: &[u8], i: usize) -> Task
     requires { (length m.now ≡ tables_length) × (i < 32) }
     ensures { result ≡ task_at m.now i }
 {
-    Task {
-        priority: task_word(m, i, 0),
-        answer: task_word(m, i, 1),
-        awaited: task_word(m, i, 2),
-        ticks: task_word(m, i, 3),
-    }
+    load::<4, Task>(m, TASKS_AT + TASK_WORDS * i)
 }
 
 pub fn store_task(m: &mut [u8], i: usize, v: Task)
     requires { (length m.old ≡ tables_length) × (i < 32) }
     ensures { m.new ≡ sets m.old (4 * task_place i) (bytes_of (task_row v)) }
 {
-    let row = [v.priority, v.answer, v.awaited, v.ticks];
-    words::set_words(m, TASKS_AT + TASK_WORDS * i, &row);
+    store::<4, Task>(m, TASKS_AT + TASK_WORDS * i, v);
 }
 
 // One word of a slot, for those who need no more of it. For the first three no byte behind the slot need be there.
@@ -170,69 +181,46 @@ pub fn load_head(m: &[u8], i: usize) -> Head
     requires { (length m.now ≡ tables_length) × (i < 64) }
     ensures { result ≡ head_of (record_at m.now i) }
 {
-    Head {
-        generation: slot_word(m, i, GENERATION),
-        live: slot_word(m, i, LIVE),
-        name: slot_word(m, i, NAME),
-        attributes: slot_word(m, i, ATTRIBUTES),
-        count: slot_word(m, i, COUNT),
-        owner: slot_word(m, i, OWNER),
-        nest: slot_word(m, i, NEST),
-        maximum: slot_word(m, i, MAXIMUM),
-        waiters: slot_word(m, i, WAITERS),
-    }
-}
-
-fn load_queue(m: &[u8], i: usize) -> [u32; 32]
-    requires { (length m.now ≡ tables_length) × (i < 64) }
-    ensures { result ≡ (record_at m.now i).queue }
-{
-    let mut queue = [0u32; 32];
-    let mut k = 0;
-    while k < TASK_PLACES {
-        queue[k] = queue_entry(m, i, k);
-        k += 1;
-    }
-    queue
+    load::<9, Head>(m, SLOTS_AT + SLOT_WORDS * i)
 }
 
 pub fn load_slot(m: &[u8], i: usize) -> Semaphore
     requires { (length m.now ≡ tables_length) × (i < 64) }
     ensures { result ≡ record_at m.now i }
 {
-    let s = load_head(m, i);
-    let queue = load_queue(m, i);
+    let Head {
+        generation,
+        live,
+        name,
+        attributes,
+        count,
+        owner,
+        nest,
+        maximum,
+        waiters,
+    } = load_head(m, i);
     Semaphore {
-        generation: s.generation,
-        live: s.live,
-        name: s.name,
-        attributes: s.attributes,
-        count: s.count,
-        owner: s.owner,
-        nest: s.nest,
-        maximum: s.maximum,
-        waiters: s.waiters,
-        queue: queue,
+        generation,
+        live,
+        name,
+        attributes,
+        count,
+        owner,
+        nest,
+        maximum,
+        waiters,
+        queue: load_row::<32>(m, SLOTS_AT + SLOT_WORDS * i + QUEUE),
     }
 }
 
+#[tactic(auto, using(crate::proofs::LoadStore::slot_stored))]
 pub fn store_slot(m: &mut [u8], i: usize, s: Semaphore)
     requires { (length m.old ≡ tables_length) × (i < 64) }
     ensures { m.new ≡ sets m.old (4 * slot_place i) (bytes_of (record_row s)) }
 {
     let at = SLOTS_AT + SLOT_WORDS * i;
-    let row = [
-        s.generation,
-        s.live,
-        s.name,
-        s.attributes,
-        s.count,
-        s.owner,
-        s.nest,
-        s.maximum,
-        s.waiters,
-    ];
-    words::set_words(m, at, &row);
+    store::<9, Head>(m, at, Head::from(s));
+    // lent by itself: to lend a part of the record would hold all of it once more
     let queue = s.queue;
     words::set_words(m, at + QUEUE, &queue);
 }
@@ -243,18 +231,7 @@ pub fn store_head(m: &mut [u8], i: usize, s: Head)
     ensures { (t : Tables) → m.old ≡ laid t → i < length t.slots → s.waiters ≡ length (queue_of t i)
         → m.new ≡ laid (with_slots t (set t.slots i (slot_with s (queue_of t i)))) }
 {
-    let row = [
-        s.generation,
-        s.live,
-        s.name,
-        s.attributes,
-        s.count,
-        s.owner,
-        s.nest,
-        s.maximum,
-        s.waiters,
-    ];
-    words::set_words(m, SLOTS_AT + SLOT_WORDS * i, &row);
+    store::<9, Head>(m, SLOTS_AT + SLOT_WORDS * i, s);
 }
 
 // One waiter more, at the end of a slot's queue.
@@ -329,49 +306,39 @@ pub fn drop_ready(m: &mut [u8])
 }
 
 // Whether a slot's queue is within its 32 places, and 0 behind its waiters.
+#[tactic(auto, using(laws::proofs::Choose::cases), unfolding(crate::specs::Layout::is_queue_laid))]
 fn is_queue_laid(m: &[u8], i: usize) -> bool
     requires { (length m.now ≡ tables_length) × (i < 64) }
     ensures { result ≡ is_queue_laid m.now i }
 {
-    let at = SLOTS_AT + SLOT_WORDS * i;
+    let queue = SLOTS_AT + SLOT_WORDS * i + QUEUE;
     let waiters = slot_waiters(m, i) as usize;
     // Most queues are empty, and a look at all places has no loop.
     if waiters == 0 {
-        return words::is_blank(m, at + QUEUE, at + SLOT_WORDS);
+        return words::is_blank(m, queue, queue + TASK_PLACES);
     }
-    if TASK_PLACES < waiters {
-        return false;
-    }
-    words::is_blank(m, at + QUEUE + waiters, at + SLOT_WORDS)
+    waiters <= TASK_PLACES && words::is_blank(m, queue + waiters, queue + TASK_PLACES)
 }
 
 fn are_queues_laid(m: &[u8], slots: usize) -> bool
     requires { (length m.now ≡ tables_length) × (slots ≤ 64) }
     ensures { result ≡ all slots (is_queue_laid m.now) }
 {
-    let mut i = 0;
-    while i < slots {
-        if !is_queue_laid(m, i) {
-            return false;
-        }
-        i += 1;
-    }
-    true
+    (0..slots).all(|i| is_queue_laid(m, i))
 }
 
 // Whether the sequence of ready tasks is within its 32 places, and 0 behind its length.
+#[tactic(auto, using(laws::proofs::Choose::cases), unfolding(crate::specs::Layout::is_sequence_laid))]
 fn is_sequence_laid(m: &[u8]) -> bool
     requires { length m.now ≡ tables_length }
     ensures { result ≡ is_sequence_laid m.now }
 {
     let ready = ready_count(m) as usize;
-    if TASK_PLACES < ready {
-        return false;
-    }
-    words::is_blank(m, SEQUENCE_AT + ready, TABLES_WORDS)
+    ready <= TASK_PLACES && words::is_blank(m, SEQUENCE_AT + ready, TABLES_WORDS)
 }
 
 // Whether lent bytes, of any length, are the layout of some tables.
+#[tactic(auto, using(laws::proofs::Choose::cases), unfolding(crate::specs::Layout::is_laid))]
 pub fn is_layout(m: &[u8]) -> bool
     ensures { result ≡ is_laid m.now }
 {
@@ -380,20 +347,10 @@ pub fn is_layout(m: &[u8]) -> bool
     }
     let tasks = words::word(m, 0) as usize;
     let slots = words::word(m, 1) as usize;
-    if TASK_PLACES < tasks {
-        return false;
-    }
-    if SLOT_PLACES < slots {
-        return false;
-    }
-    if !words::is_blank(m, TASKS_AT + TASK_WORDS * tasks, SLOTS_AT) {
-        return false;
-    }
-    if !are_queues_laid(m, slots) {
-        return false;
-    }
-    if !words::is_blank(m, SLOTS_AT + SLOT_WORDS * slots, READY_AT) {
-        return false;
-    }
-    is_sequence_laid(m)
+    tasks <= TASK_PLACES
+        && slots <= SLOT_PLACES
+        && words::is_blank(m, TASKS_AT + TASK_WORDS * tasks, SLOTS_AT)
+        && are_queues_laid(m, slots)
+        && words::is_blank(m, SLOTS_AT + SLOT_WORDS * slots, READY_AT)
+        && is_sequence_laid(m)
 }

@@ -1,21 +1,21 @@
 -- Bytes one after another: the end of a line, one byte, and the turns of the loop over a part.
 use mathlib.Core.Path.{◌≡◌, refl, sym, ap, subst, ◌∙◌}
 use mathlib.Core.List.{List}
-use Prim.Native.Nat.{ℕ, ◌+◌, ◌≤◌, ◌<◌}
+use Prim.Native.Nat.{ℕ, suc, min, ◌+◌, ◌≤◌, ◌<◌}
+use native.Mathlib.Decide.{dec_lt}
 use native.Mathlib.Numerals.{add-one}
 use native.Mathlib.Omega.{arith}
 use lib.ListN.{length, get_or, take, drop, drop_of_length-le}
 use lib.Seq.{drop-cons}
-use Rattle.laws.proofs.Choose.{if_eq, if_ne}
+use Rattle.laws.proofs.Choose.{if_lt, if_not_lt, if_eq, if_ne}
 use Rattle.text.specs.declared.At.{At}
-use Rattle.text.specs.declared.Next.{Next}
-use Rattle.text.specs.declared.Next.TheVariants.{Goes as GoesTo, Stops as StopsAt}
+use Rattle.std.specs.Prelude.{Ok, Err}
+use Rattle.text.specs.declared.Fault.{Fault as LineFault}
 use Rattle.text.specs.declared.feeding.Progress.{Progress}
-use Rattle.text.specs.declared.feeding.Fed.{Fed as FedTo}
-use Rattle.text.specs.declared.feeding.Fed.TheVariants.{Keeps as KeepsTo, Faults as FaultsAt}
+use Rattle.text.specs.declared.feeding.Faulty.{Faulty}
 use Rattle.text.specs.Reading.{Room, read_line, one_more}
 use Rattle.text.specs.Reading.Read.{Goes, Stops}
-use Rattle.text.specs.Feeding.{Lent, room_of, reading_of, read_of, InsideNext, Leaves, Kept, keeping, kept_of, Fed, fed_of, Ready, ReadyNext, Feeds}
+use Rattle.text.specs.Feeding.{fault_of, Next, FedTo, Lent, room_of, reading_of, read_of, InsideNext, Leaves, Kept, keeping, kept_of, Fed, fed_of, Ready, ReadyNext, Feeds}
 use Rattle.text.specs.Feeding.{Takes}
 use Rattle.text.specs.Feeding.{ended, end_line, lengthen, take_byte, take_bytes, at_end, and_next}
 use Rattle.text.specs.Feeding.Fed.{Keeps, Faults}
@@ -25,9 +25,17 @@ feeds_as {r = r} {line = line} {l = l} e f = subst (λ (x : Fed). Feeds x r line
 
 -- ---- the end of a line
 
+-- 32 bits count no further
+pub counted : (n : ℕ) → n ≤ 4294967295 → min (n + 1) 4294967295 ≡ one_more n
+counted n h =
+    elim (dec_lt n 4294967295) [
+      | yes l ↦ let e : min (n + 1) 4294967295 ≡ suc n = omega arith in e ∙ sym (if_lt n 4294967295 _ _ l)
+      | no d ↦ let e : min (n + 1) 4294967295 ≡ n = omega arith in e ∙ sym (if_not_lt n 4294967295 _ _ (omega arith))
+    ]
+
 module _ (p : Progress) (line : List ℕ) (l : Lent) (ready : Ready p line l) (next : Next) (after : Lent)
     (left : Leaves (read_line (room_of l) (reading_of p.at l) (take p.begun line)) next after) (count : ℕ) (counts : count ≡ one_more p.count) where
-  pub end_goes : (at : At) → next ≡ GoesTo at → Feeds (end_line (room_of l) (kept_of p line l)) (KeepsTo (record { at = at; begun = 0; count = count })) line after
+  pub end_goes : (at : At) → next ≡ Ok at → Feeds (end_line (room_of l) (kept_of p line l)) (Ok (record { at = at; begun = 0; count = count })) line after
   unfolding end_line
   end_goes at e =
       let read : read_line (room_of l) (reading_of p.at l) (take p.begun line) ≡ Goes (reading_of at after) =
@@ -37,12 +45,12 @@ module _ (p : Progress) (line : List ℕ) (l : Lent) (ready : Ready p line l) (n
         ready = record { inside = subst (λ (n : Next). InsideNext n after) e left.inside; full = ready.full; begun = omega arith };
       }
 
-  pub end_faults : (fault : ℕ) → next ≡ StopsAt fault → Feeds (end_line (room_of l) (kept_of p line l)) (FaultsAt count fault) line after
+  pub end_faults : (f : LineFault) → next ≡ Err f → Feeds (end_line (room_of l) (kept_of p line l)) (Err (record { line = count; fault = f })) line after
   unfolding end_line
-  end_faults fault e =
-      let read : read_line (room_of l) (reading_of p.at l) (take p.begun line) ≡ Stops fault =
+  end_faults f e =
+      let read : read_line (room_of l) (reading_of p.at l) (take p.begun line) ≡ Stops (fault_of f) =
       sym left.read ∙ ap (λ (n : Next). read_of n after) e in
-      record { fed = ap (λ (n : ℕ). Faults n fault) counts ∙ ap (ended (kept_of p line l)) (sym read); ready = tt }
+      record { fed = ap (λ (n : ℕ). Faults n (fault_of f)) counts ∙ ap (ended (kept_of p line l)) (sym read); ready = tt }
 
 -- ---- one byte
 
@@ -57,7 +65,7 @@ module _ (room : Room) (k : Kept) (b : ℕ) where
 
 pub byte_kept : (p : Progress) (b : ℕ) (line line' : List ℕ) (l : Lent) → Ready p line l → (b ≡ 10 → ⊥) → (n : ℕ)
     → keeping (reading_of p.at l) line' n p.count ≡ lengthen (kept_of p line l) b → n ≤ 257 → length line' ≡ length line
-    → Feeds (take_byte (room_of l) (kept_of p line l) b) (KeepsTo (record { at = p.at; begun = n; count = p.count })) line' l
+    → Feeds (take_byte (room_of l) (kept_of p line l) b) (Ok (record { at = p.at; begun = n; count = p.count })) line' l
 byte_kept p b line line' l ready d n e few same =
     record {
       fed = ap Keeps e ∙ sym (byte_other (room_of l) (kept_of p line l) b d);
@@ -125,7 +133,7 @@ underway_none p line l input ready =
 
 module _ {p₀ : Progress} {line₀ : List ℕ} {l₀ : Lent} {input : List ℕ} {p : Progress} {line : List ℕ} {l : Lent} {i : ℕ}
     (u : Underway p₀ line₀ l₀ input p line l i) where
-  pub underway_over : length input ≤ i → Takes (λ room k. take_bytes room k input) p₀ (KeepsTo p) line₀ l₀ line l
+  pub underway_over : length input ≤ i → Takes (λ room k. take_bytes room k input) p₀ (Ok p) line₀ l₀ line l
   underway_over h = record { fed = sym (u.rest ∙ bytes_none (room_of l₀) (kept_of p line l) input i h); ready = u.ready }
 
   module _ (h : i < length input) (r : FedTo) (line' : List ℕ) (l' : Lent)
@@ -133,7 +141,7 @@ module _ {p₀ : Progress} {line₀ : List ℕ} {l₀ : Lent} {input : List ℕ}
     took_there : take_byte (room_of l₀) (kept_of p line l) (get_or input i 0) ≡ fed_of r line' l'
     took_there = ap (λ (room : Room). take_byte room (kept_of p line l) (get_or input i 0)) (sym (same_room u.sizes)) ∙ sym took.fed
 
-    pub underway_more : (p' : Progress) → r ≡ KeepsTo p' → SameSizes l l' → Underway p₀ line₀ l₀ input p' line' l' (i + 1)
+    pub underway_more : (p' : Progress) → r ≡ Ok p' → SameSizes l l' → Underway p₀ line₀ l₀ input p' line' l' (i + 1)
     underway_more p' e s =
         record {
           sizes = record {
@@ -151,12 +159,12 @@ module _ {p₀ : Progress} {line₀ : List ℕ} {l₀ : Lent} {input : List ℕ}
               ∙ bytes_more (room_of l₀) (kept_of p line l) input i h (kept_of p' line' l') (took_there ∙ ap (λ (f : FedTo). fed_of f line' l') e);
         }
 
-    pub underway_fault : (n fault : ℕ) → r ≡ FaultsAt n fault → Takes (λ room k. take_bytes room k input) p₀ (FaultsAt n fault) line₀ l₀ line' l'
-    underway_fault n fault e =
+    pub underway_fault : (f : Faulty) → r ≡ Err f → Takes (λ room k. take_bytes room k input) p₀ (Err f) line₀ l₀ line' l'
+    underway_fault f e =
         record {
           fed =
               sym
               (u.rest
-              ∙ bytes_fault (room_of l₀) (kept_of p line l) input i h n fault (took_there ∙ ap (λ (f : FedTo). fed_of f line' l') e));
+              ∙ bytes_fault (room_of l₀) (kept_of p line l) input i h f.line (fault_of f.fault) (took_there ∙ ap (λ (x : FedTo). fed_of x line' l') e));
           ready = tt;
         }

@@ -19,9 +19,10 @@ use Rattle.session.specs.Kept.{Response}
 use Rattle.session.proofs.Line.{too_long}
 use Rattle.session.proofs.Output.{respond_is}
 use Rattle.session.proofs.Whole.{Plain, plain_more, lines_newline, lines_end, joined}
+use Rattle.text.specs.declared.Part.TheVariants as part
 use Rattle.text.specs.declared.feeding.Progress.{Progress}
-use Rattle.text.specs.declared.feeding.Fed.{Fed as FedTo}
-use Rattle.text.specs.declared.feeding.Fed.TheVariants.{Keeps as KeepsTo, Faults as FaultsAt}
+use Rattle.text.specs.declared.feeding.Faulty.{Faulty}
+use Rattle.std.specs.Prelude.{Ok, Err}
 use Rattle.text.specs.Words.{Said, opens_scripts}
 use Rattle.text.specs.Reading.{Reading, Room, Read, Outcome, in_part, with_bytes, script_line, session_line, section_line, event_line, read_line, outset}
 use Rattle.text.specs.Reading.{and_then}
@@ -29,7 +30,7 @@ use Rattle.text.specs.Reading.{one_more, read_lines, read_text}
 use Rattle.text.specs.Reading.Read.{Goes, Stops}
 use Rattle.text.specs.Reading.Outcome.{Says, Fault}
 use Rattle.text.specs.Feeding.{Lent, Kept, keeping, kept_of, Fed, ended, end_line, lengthen, take_byte, take_bytes, and_next, at_end, fed_in_parts, outcome_of}
-use Rattle.text.specs.Feeding.{room_of, fed_of, Takes}
+use Rattle.text.specs.Feeding.{FedTo, room_of, fed_of, Takes}
 use Rattle.text.specs.Feeding.Fed.{Keeps, Faults}
 use Rattle.text.proofs.Saying.{long_none}
 use Rattle.text.proofs.Bytes.{feeds_as, end_none, end_some, SameSizes, same_room}
@@ -218,7 +219,7 @@ module _ (room : Room) where
 
 -- lent bytes of an unstarted machine and locals of 0, with nothing read, are the outset
 pub outset_kept : (p : Progress) (line : List ℕ) (l : Lent)
-    → p ≡ record { at = record { part = 0; cells = 0; scripts = 0; events = 0 }; begun = 0; count = 0 }
+    → p ≡ record { at = record { part = part.Session; cells = 0; scripts = 0; events = 0 }; begun = 0; count = 0 }
     → l.bytes ≡ laid unstarted → l.locals ≡ replicate 256 0 → kept_of p line l ≡ keeping outset line 0 0
 outset_kept p line l e b f =
     ap (λ (q : Progress). kept_of q line l) e
@@ -227,7 +228,7 @@ outset_kept p line l e b f =
 -- ---- for callers: one part fed after another, a fault, and the end
 
 module _ (p p' : Progress) (line line' : List ℕ) (l l' : Lent) (a : List ℕ)
-    (fed : Takes (λ room k. take_bytes room k a) p (KeepsTo p') line l line' l') (sizes : SameSizes l l') where
+    (fed : Takes (λ room k. take_bytes room k a) p (Ok p') line l line' l') (sizes : SameSizes l l') where
   pub part_more : (b : List ℕ) {r : FedTo} {line'' : List ℕ} {l'' : Lent} → Takes (λ room k. take_bytes room k b) p' r line' l' line'' l''
       → Takes (λ room k. take_bytes room k (a ++ b)) p r line l line'' l''
   part_more b next =
@@ -245,10 +246,10 @@ module _ (p p' : Progress) (line line' : List ℕ) (l l' : Lent) (a : List ℕ)
       ∙ ap (λ (k : Kept). to_end (room_of l) k a) e)
       ∙ text_read (room_of l) line full a
 
-pub part_fault : (p : Progress) (line line' : List ℕ) (l l' : Lent) (n fault : ℕ) (a b : List ℕ)
-    → Takes (λ room k. take_bytes room k a) p (FaultsAt n fault) line l line' l'
-    → Takes (λ room k. take_bytes room k (a ++ b)) p (FaultsAt n fault) line l line' l'
-part_fault p line line' l l' n fault a b fed =
+pub part_fault : (p : Progress) (line line' : List ℕ) (l l' : Lent) (f : Faulty) (a b : List ℕ)
+    → Takes (λ room k. take_bytes room k a) p (Err f) line l line' l'
+    → Takes (λ room k. take_bytes room k (a ++ b)) p (Err f) line l line' l'
+part_fault p line line' l l' f a b fed =
     record {
       fed =
           ap (λ (x : Fed). and_next x (λ k. take_bytes (room_of l) k b)) fed.fed

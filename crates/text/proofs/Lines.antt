@@ -17,18 +17,25 @@ use Rattle.line.specs.Print.{spliced}
 use Rattle.line.proofs.Printing.{length_spliced}
 use Rattle.session.proofs.Output.{front}
 use Rattle.text.specs.declared.At.{At}
-use Rattle.text.specs.declared.Next.{Next}
-use Rattle.text.specs.declared.Next.TheVariants.{Goes as GoesTo, Stops as StopsAt}
+use Rattle.std.specs.Prelude.{Ok, Err}
+use Rattle.text.specs.declared.Part.{Part}
+use Rattle.text.specs.declared.Part.TheVariants as part
+use Rattle.text.specs.declared.Fault.{Fault as LineFault}
+use Rattle.text.specs.declared.Fault.TheVariants as fault
 use Rattle.text.specs.Reading.{Read, cell_line, local_line, row_line, section_begins}
 use Rattle.text.specs.Reading.Read.{Goes, Stops}
-use Rattle.text.specs.Feeding.{Lent, lent, room_of, reading_of, Inside, Leaves}
+use Rattle.text.specs.Feeding.{part_of, fault_of, Next, Lent, lent, room_of, reading_of, Inside, Leaves}
+
+-- another part of the file, and nothing stored
+abbrev pub in_that_part : Part → At → At
+in_that_part p at = record at { part = p }
 
 pub leaves_as : {a b : Read} {next : Next} {l : Lent} → a ≡ b → Leaves a next l → Leaves b next l
 leaves_as {next = next} {l = l} e k = subst (λ (x : Read). Leaves x next l) e k
 
 -- a fault changes nothing that counts
-pub leaves_fault : {a : Read} {l : Lent} (fault : ℕ) → a ≡ Stops fault → Leaves a (StopsAt fault) l
-leaves_fault fault e = record { read = sym e; inside = tt }
+pub leaves_fault : {a : Read} {l : Lent} (f : LineFault) → a ≡ Stops (fault_of f) → Leaves a (Err f) l
+leaves_fault f e = record { read = sym e; inside = tt }
 
 module _ (at : At) (l : Lent) (i : Inside at l) where
   cells_read : length (take at.cells l.cells) ≡ at.cells
@@ -40,13 +47,13 @@ module _ (at : At) (l : Lent) (i : Inside at l) where
   -- ---- the next cell
 
   module _ (id n : ℕ) where
-    pub cell_full : length l.cells ≤ at.cells → (after : Lent) → Leaves (cell_line (room_of l) (reading_of at l) id n) (StopsAt 8) after
+    pub cell_full : length l.cells ≤ at.cells → (after : Lent) → Leaves (cell_line (room_of l) (reading_of at l) id n) (Err fault.NoRoomForCell) after
     unfolding cell_line
-    cell_full h after = leaves_fault 8 (if_not_lt (length (take at.cells l.cells)) (length l.cells) _ _ (omega (arith, cells_read)))
+    cell_full h after = leaves_fault fault.NoRoomForCell (if_not_lt (length (take at.cells l.cells)) (length l.cells) _ _ (omega (arith, cells_read)))
 
     pub cell_put : at.cells < length l.cells
         → Leaves (cell_line (room_of l) (reading_of at l) id n)
-        (GoesTo (record { part = at.part; cells = at.cells + 1; scripts = at.scripts; events = at.events }))
+        (Ok (record { part = at.part; cells = at.cells + 1; scripts = at.scripts; events = at.events }))
         (lent l.bytes (set l.ids at.cells id) (set l.cells at.cells n) l.locals l.scripts l.events)
     unfolding cell_line
     cell_put h =
@@ -56,7 +63,7 @@ module _ (at : At) (l : Lent) (i : Inside at l) where
         record {
           read =
               ap₂ (λ (us cs : List ℕ). Goes (record {
-                part = at.part;
+                part = part_of at.part;
                 bytes = l.bytes;
                 ids = us;
                 cells = cs;
@@ -77,21 +84,21 @@ module _ (at : At) (l : Lent) (i : Inside at l) where
   -- ---- a local
 
   module _ (q local n : ℕ) where
-    pub local_out : (within 1 32 q and ltb local 8) ≡ false → Leaves (local_line (reading_of at l) q local n) (StopsAt 2) l
+    pub local_out : (within 1 32 q and ltb local 8) ≡ false → Leaves (local_line (reading_of at l) q local n) (Err fault.LocalOutOfRange) l
     unfolding local_line
-    local_out e = leaves_fault 2 (if_no _ _ e)
+    local_out e = leaves_fault fault.LocalOutOfRange (if_no _ _ e)
 
-    pub local_low : q < 1 → Leaves (local_line (reading_of at l) q local n) (StopsAt 2) l
+    pub local_low : q < 1 → Leaves (local_line (reading_of at l) q local n) (Err fault.LocalOutOfRange) l
     local_low h = local_out (if_no _ _ (within_low 1 32 q h))
 
-    pub local_high : 32 < q → Leaves (local_line (reading_of at l) q local n) (StopsAt 2) l
+    pub local_high : 32 < q → Leaves (local_line (reading_of at l) q local n) (Err fault.LocalOutOfRange) l
     local_high h = local_out (if_no _ _ (within_high 1 32 q h))
 
-    pub local_far : 8 ≤ local → Leaves (local_line (reading_of at l) q local n) (StopsAt 2) l
+    pub local_far : 8 ≤ local → Leaves (local_line (reading_of at l) q local n) (Err fault.LocalOutOfRange) l
     local_far h = local_out (ap (λ t. within 1 32 q and t) (le-ltb local 8 h) ∙ choose_same (within 1 32 q) false)
 
     pub local_put : 1 ≤ q → q ≤ 32 → local < 8 → (k : ℕ) → k ≡ pred q * 8 + local
-        → Leaves (local_line (reading_of at l) q local n) (GoesTo at) (lent l.bytes l.ids l.cells (set l.locals k n) l.scripts l.events)
+        → Leaves (local_line (reading_of at l) q local n) (Ok at) (lent l.bytes l.ids l.cells (set l.locals k n) l.scripts l.events)
     unfolding local_line
     local_put some few near k e =
         record {
@@ -113,21 +120,21 @@ module _ (at : At) (l : Lent) (i : Inside at l) where
     abbrev row : List ℕ
     row = kind ∷ a ∷ b ∷ c ∷ []
 
-    pub row_full : length l.scripts < at.scripts + 4 → Leaves (row_line (room_of l) (reading_of at l) kind a b c) (StopsAt 9) l
+    pub row_full : length l.scripts < at.scripts + 4 → Leaves (row_line (room_of l) (reading_of at l) kind a b c) (Err fault.NoRoomForRow) l
     unfolding row_line
-    row_full h = leaves_fault 9 (if_not_le (length (take at.scripts l.scripts) + 4) (length l.scripts) _ _ (omega (arith, scripts_read)))
+    row_full h = leaves_fault fault.NoRoomForRow (if_not_le (length (take at.scripts l.scripts) + 4) (length l.scripts) _ _ (omega (arith, scripts_read)))
 
     pub row_put : at.scripts + 4 ≤ length l.scripts → (scripts : List ℕ) (end : ℕ) → end ≡ at.scripts + 4
         → scripts ≡ spliced at.scripts row l.scripts
         → Leaves (row_line (room_of l) (reading_of at l) kind a b c)
-        (GoesTo (record { part = at.part; cells = at.cells; scripts = end; events = at.events }))
+        (Ok (record { part = at.part; cells = at.cells; scripts = end; events = at.events }))
         (lent l.bytes l.ids l.cells l.locals scripts l.events)
     unfolding row_line
     row_put h scripts end e f =
         record {
           read =
               ap (λ (ss : List ℕ). Goes (record {
-                part = at.part;
+                part = part_of at.part;
                 bytes = l.bytes;
                 ids = take at.cells l.ids;
                 cells = take at.cells l.cells;
@@ -148,18 +155,17 @@ module _ (at : At) (l : Lent) (i : Inside at l) where
   -- ---- a section
 
   module _ (id options timeout : ℕ) where
-    pub section_alone : at.scripts ≡ 0 → Leaves (section_begins (room_of l) (reading_of at l) id options timeout) (StopsAt 5) l
+    pub section_alone : at.scripts ≡ 0 → Leaves (section_begins (room_of l) (reading_of at l) id options timeout) (Err fault.SectionWithoutScript) l
     unfolding section_begins
-    section_alone e = leaves_fault 5 (if_eq _ 0 _ _ (scripts_read ∙ e))
+    section_alone e = leaves_fault fault.SectionWithoutScript (if_eq _ 0 _ _ (scripts_read ∙ e))
 
     pub section_row : (at.scripts ≡ 0 → ⊥) → {next : Next} {after : Lent}
         → Leaves
-        (row_line (room_of l) (reading_of (record { part = 2; cells = at.cells; scripts = at.scripts; events = at.events }) l) 2 id options timeout) next after
+        (row_line (room_of l) (reading_of (in_that_part part.Section at) l) 2 id options timeout) next after
         → Leaves (section_begins (room_of l) (reading_of at l) id options timeout) next after
     unfolding section_begins
     section_row d k = leaves_as (sym (if_ne _ 0 _ _ (λ e. d (sym scripts_read ∙ e)))) k
 
 -- the same fronts lie inside in any part
-pub inside_part : {at : At} {l : Lent} (part : ℕ) → Inside at l
-    → Inside (record { part = part; cells = at.cells; scripts = at.scripts; events = at.events }) l
-inside_part part i = record { cells = i.cells; ids = i.ids; scripts = i.scripts; events = i.events; locals = i.locals }
+pub inside_part : {at : At} {l : Lent} (p : Part) → Inside at l → Inside (in_that_part p at) l
+inside_part p i = record { cells = i.cells; ids = i.ids; scripts = i.scripts; events = i.events; locals = i.locals }

@@ -4,6 +4,7 @@ use mathlib.Core.Bool.{Bool, true, false}
 use mathlib.Core.List.{List, []}
 use mathlib.Core.Logic.{⊎_elim}
 use mathlib.Core.Option.{none, some}
+use Rattle.std.specs.Prelude.{Option as Answered, Some, None}
 use Prim.Native.Nat.{ℕ, ◌≤◌, ◌<◌}
 use native.Mathlib.Omega.{arith}
 use lib.Dec.{leb}
@@ -14,11 +15,11 @@ use Rattle.laws.specs.Choose.{choose, ◌and◌}
 use Rattle.laws.proofs.Choose.{tested, if_yes, if_no, choose_same}
 use Rattle.line.specs.Line.{max_line, are_numbers, numbers}
 use Rattle.line.specs.Scan.{first, others, all_numbers, numbers_read, placed}
-use Rattle.line.specs.declared.Numbers.{Numbers}
-use Rattle.line.specs.declared.Numbers.TheVariants.{Broken, Count}
 use Rattle.line.proofs.Fields.{word_is, behind_word}
-use Rattle.text.specs.declared.vocabulary.Spoken.{Spoken}
-use Rattle.text.specs.Words.{Said, says, said_by, word_number, count_fits, kept}
+use Rattle.text.specs.declared.vocabulary.Word.{Word}
+use Rattle.text.specs.Words.{Said, says, said_by, word_number, count_fits}
+use Rattle.text.specs.Spoken.{number_of}
+use Rattle.text.proofs.Words.{number_some}
 
 -- ---- a test of several parts: one that fails, and one that holds
 
@@ -67,55 +68,40 @@ module _ (bs : List ℕ) (n : ℕ) (short : length bs ≤ max_line) (ends : n �
       ∙ ap (λ (s : Said). choose (are_numbers (others bs)) s (says 0 [])) (if_no _ _ (if_no _ _ refl))
       ∙ choose_same (are_numbers (others bs)) (says 0 [])
 
-  module _ (x : Numbers) (ns : List ℕ) (read : all_numbers (others (drop n bs)) ≡ numbers_read x ns) where
+  module _ (x : Answered ℕ) (ns : List ℕ) (read : all_numbers (others (drop n bs)) ≡ numbers_read x ns) where
     read_there : all_numbers (others bs) ≡ numbers_read x ns
     read_there = ap all_numbers (sym rest_there) ∙ read
 
-    pub broken_none : x ≡ Broken → said_by bs ≡ says 0 []
+    pub broken_none : x ≡ None → said_by bs ≡ says 0 []
     unfolding all_numbers
     broken_none b =
-        let e : all_numbers (others bs) ≡ none = read_there ∙ ap (λ (x : Numbers). numbers_read x ns) b in
+        let e : all_numbers (others bs) ≡ none = read_there ∙ ap (λ (x : Answered ℕ). numbers_read x ns) b in
         ⊎_elim
         (λ (t : are_numbers (others bs) ≡ true). let f = if_yes (some (numbers (others bs))) none t in let z : ◌≡◌ {A = ℕ} 0 1 = cc in absurd (omega arith))
         (λ (t : are_numbers (others bs) ≡ false). by_word ∙ if_no _ _ t)
         (tested (are_numbers (others bs)))
 
-    told : Spoken → Said
-    told s = says s.word (take s.count ns)
+    -- the word that was found, and k numbers behind it
+    module _ (k : ℕ) (counts : x ≡ Some k) (fits : placed x ≤ length ns) (v : Word) (is : number_of v ≡ word_number (take n bs)) where
+      pub count_few : k ≤ length ns
+      count_few = subst (λ (x : Answered ℕ). placed x ≤ length ns) counts fits
 
-    kept_said : (k word : ℕ) (r : Spoken) → k ≤ length ns → (word ≡ 0 → ⊥) → r ≡ kept word k → wording word (take k ns) ≡ told r
-    unfolding wording told kept
-    kept_said k word r few some_word spoken =
-        part_holds (says word (take k ns)) (says 0 []) _ _ (le-leb 1 word (omega (arith, some_word)))
-        ∙ ap (λ (m : ℕ). choose (count_fits word m) (says word (take k ns)) (says 0 [])) (length-take-le k ns few)
-        ∙ ⊎_elim
-        (λ (t : count_fits word k ≡ true). if_yes (says word (take k ns)) (says 0 []) t ∙ sym (ap told (if_yes _ _ t)))
-        (λ (t : count_fits word k ≡ false). if_no (says word (take k ns)) (says 0 []) t ∙ sym (ap told (if_no _ _ t)))
-        (tested (count_fits word k))
-        ∙ ap told (sym spoken)
+      by_count : said_by bs ≡ choose (count_fits (number_of v) k) (says (number_of v) (take k ns)) (says 0 [])
+      unfolding all_numbers wording
+      by_count =
+          let e : all_numbers (others bs) ≡ some (take k ns) = read_there ∙ ap (λ (x : Answered ℕ). numbers_read x ns) counts in
+          ⊎_elim
+          (λ (t : are_numbers (others bs) ≡ true).
+          let f = if_yes (some (numbers (others bs))) none t in
+          let taken : numbers (others bs) ≡ take k ns = cc in
+          by_word ∙ if_yes _ _ t ∙ ap₂ wording (ap word_number (sym word_there) ∙ sym is) taken
+          ∙ part_holds (says (number_of v) (take k ns)) (says 0 []) _ _ (number_some v)
+          ∙ ap (λ (m : ℕ). choose (count_fits (number_of v) m) (says (number_of v) (take k ns)) (says 0 [])) (length-take-le k ns count_few))
+          (λ (t : are_numbers (others bs) ≡ false). let f = if_no (some (numbers (others bs))) none t in let z : ◌≡◌ {A = ℕ} 0 1 = cc in absurd (omega arith))
+          (tested (are_numbers (others bs)))
 
-    pub word_said : (k word : ℕ) (r : Spoken) → x ≡ Count k → placed x ≤ length ns → word ≡ word_number (take n bs) → (word ≡ 0 → ⊥) → r ≡ kept word k
-        → said_by bs ≡ says r.word (take r.count ns)
-    unfolding all_numbers told
-    word_said k word r counts fits is some_word spoken =
-        let e : all_numbers (others bs) ≡ some (take k ns) = read_there ∙ ap (λ (x : Numbers). numbers_read x ns) counts in
-        let few : k ≤ length ns = subst (λ (x : Numbers). placed x ≤ length ns) counts fits in
-        ⊎_elim
-        (λ (t : are_numbers (others bs) ≡ true).
-        let f = if_yes (some (numbers (others bs))) none t in
-        let taken : numbers (others bs) ≡ take k ns = cc in
-        by_word ∙ if_yes _ _ t ∙ ap₂ wording (ap word_number (sym word_there) ∙ sym is) taken ∙ kept_said k word r few some_word spoken)
-        (λ (t : are_numbers (others bs) ≡ false). let f = if_no (some (numbers (others bs))) none t in let z : ◌≡◌ {A = ℕ} 0 1 = cc in absurd (omega arith))
-        (tested (are_numbers (others bs)))
+      pub fit_said : count_fits (number_of v) k ≡ true → said_by bs ≡ says (number_of v) (take k ns)
+      fit_said t = by_count ∙ if_yes _ _ t
 
-pub kept_few : (w k m : ℕ) (r : Spoken) → r ≡ kept w k → k ≤ m → r.count ≤ m
-unfolding kept
-kept_few w k m r e h =
-    subst (λ (s : Spoken). s.count ≤ m) (sym e)
-    (⊎_elim
-    (λ (t : count_fits w k ≡ true). subst (λ (s : Spoken). s.count ≤ m) (sym (if_yes _ _ t)) h)
-    (λ (t : count_fits w k ≡ false). subst (λ (s : Spoken). s.count ≤ m) (sym (if_no _ _ t)) (omega arith))
-    (tested (count_fits w k)))
-
-pub placed_few : {x : Numbers} {k m : ℕ} → x ≡ Count k → placed x ≤ m → k ≤ m
-placed_few {m = m} e h = subst (λ (x : Numbers). placed x ≤ m) e h
+      pub unfit_none : count_fits (number_of v) k ≡ false → said_by bs ≡ says 0 []
+      unfit_none t = by_count ∙ if_no _ _ t

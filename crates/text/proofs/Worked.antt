@@ -6,13 +6,13 @@ use lib.ListN.{replicate}
 use Rattle.laws.specs.Choose.{choose}
 use Rattle.rules.specs.Machine.{unstarted}
 use Rattle.tables.specs.Layout.{laid}
-use Rattle.line.specs.Line.{fields, all_digits, spelled, is_number, are_numbers, numbers, same_bytes}
+use Rattle.line.specs.Line.{fields, all_digits, spelled, is_number, are_numbers, numbers}
 use Rattle.session.specs.Session.{lines}
 use Rattle.session.specs.Kept.{respond}
 use Rattle.text.specs.Words.{event_word, script_part, word_number, takes, count_fits, said_by}
 use Rattle.text.specs.Reading.{Room, cell_line, local_line, row_line, section_begins, other_line, script_line, session_line, step_line}
 use Rattle.text.specs.Reading.{section_line}
-use Rattle.text.specs.Reading.{event_numbers, event_line, read_line, read_lines, read_text}
+use Rattle.text.specs.Reading.{event_numbers, event_put, read_line, read_lines, read_text}
 use Rattle.text.specs.Reading.Outcome.{Says, Fault}
 
 -- ---- the example
@@ -72,8 +72,8 @@ pub example_says : read_text room example ≡ Says (record {
   scripts = 1 ∷ 1 ∷ 0 ∷ 0 ∷ 2 ∷ 65537 ∷ 0 ∷ 4294967295 ∷ 3 ∷ 0 ∷ 0 ∷ 0 ∷ 6 ∷ 1 ∷ 0 ∷ 0 ∷ 4 ∷ 0 ∷ 0 ∷ 0 ∷ [];
   events = 1 ∷ 1 ∷ 1 ∷ 1 ∷ 1 ∷ 1 ∷ 1 ∷ 1 ∷ 1 ∷ 1 ∷ [];
 })
-unfolding choose fields all_digits spelled is_number are_numbers numbers same_bytes lines event_word script_part word_number takes count_fits said_by
-    cell_line local_line row_line section_begins other_line script_line session_line step_line section_line event_numbers event_line read_line read_lines read_text
+unfolding choose fields all_digits spelled is_number are_numbers numbers lines event_word script_part word_number takes count_fits said_by
+    cell_line local_line row_line section_begins other_line script_line session_line step_line section_line event_numbers event_put read_line read_lines read_text
 example_says = refl
 
 -- ---- faults
@@ -173,6 +173,6 @@ pub faults_are :
     × FaultIs none full_cells 1 8
     × FaultIs none full_scripts 1 9
     × FaultIs none full_events 2 10
-unfolding choose fields all_digits spelled is_number are_numbers numbers same_bytes lines event_word script_part word_number takes count_fits said_by
-    cell_line local_line row_line section_begins other_line script_line session_line step_line section_line event_numbers event_line read_line read_lines read_text
+unfolding choose fields all_digits spelled is_number are_numbers numbers lines event_word script_part word_number takes count_fits said_by
+    cell_line local_line row_line section_begins other_line script_line session_line step_line section_line event_numbers event_put read_line read_lines read_text
 faults_are = (refl, refl, refl, refl, refl, refl, refl, refl, refl, refl)

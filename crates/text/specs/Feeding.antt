@@ -1,16 +1,44 @@
 -- What the code keeps of a text between two bytes: the numbers read so far stand at the front of what is lent, and a line that has begun in 257 bytes, since
 -- a line of more than 256 is none, however much longer.
-use Rattle.std.specs.Prelude.{◌≡◌, List, [], ◌∷◌, ℕ, ◌+◌, ◌≤◌, ltb, eqb, length, take, set}
+use Rattle.std.specs.Prelude.{◌≡◌, List, [], ◌∷◌, ℕ, ◌+◌, ◌≤◌, ltb, eqb, length, take, set, Result, Ok, Err}
 use Rattle.laws.specs.Choose.{choose}
 use Rattle.text.specs.declared.At.{At}
-use Rattle.text.specs.declared.Next.{Next}
-use Rattle.text.specs.declared.Next.TheVariants.{Goes as GoesTo, Stops as StopsAt}
+use Rattle.text.specs.declared.Part.{Part}
+use Rattle.text.specs.declared.Part.TheVariants as part
+use Rattle.text.specs.declared.Fault.{Fault as LineFault}
+use Rattle.text.specs.declared.Fault.TheVariants as fault
 use Rattle.text.specs.declared.feeding.Progress.{Progress}
-use Rattle.text.specs.declared.feeding.Fed.{Fed as FedTo}
-use Rattle.text.specs.declared.feeding.Fed.TheVariants.{Keeps as KeepsTo, Faults as FaultsAt}
+use Rattle.text.specs.declared.feeding.Faulty.{Faulty}
 use Rattle.text.specs.Reading.{Reading, Room, Read, Outcome, read_line, one_more}
 use Rattle.text.specs.Reading.Read.{Goes, Stops}
 use Rattle.text.specs.Reading.Outcome.{Says, Fault}
+
+-- the number of each part and of each fault
+abbrev pub part_of : Part → ℕ
+part_of part.Session = 0
+part_of part.Scripts = 1
+part_of part.Section = 2
+part_of part.Events = 3
+
+abbrev pub fault_of : LineFault → ℕ
+fault_of fault.NoLine = 1
+fault_of fault.LocalOutOfRange = 2
+fault_of fault.EndWithoutSection = 3
+fault_of fault.StepWithoutSection = 4
+fault_of fault.SectionWithoutScript = 5
+fault_of fault.ScriptInSection = 6
+fault_of fault.RunInSection = 7
+fault_of fault.NoRoomForCell = 8
+fault_of fault.NoRoomForRow = 9
+fault_of fault.NoRoomForEvent = 10
+
+-- what the code answers to a line: how much is read, or why it is refused
+abbrev pub Next : Type 0
+Next = Result At LineFault
+
+-- and to bytes: what is kept, or the first line at fault
+abbrev pub FedTo : Type 0
+FedTo = Result Progress Faulty
 
 -- all that is lent
 pub record Lent : Type 0 where
@@ -30,7 +58,7 @@ room_of l = record { cells = length l.cells; scripts = length l.scripts; events 
 abbrev pub reading_of : At → Lent → Reading
 reading_of at l =
     record {
-      part = at.part;
+      part = part_of at.part;
       bytes = l.bytes;
       ids = take at.cells l.ids;
       cells = take at.cells l.cells;
@@ -40,8 +68,8 @@ reading_of at l =
     }
 
 abbrev pub read_of : Next → Lent → Read
-read_of (GoesTo at) l = Goes (reading_of at l)
-read_of (StopsAt fault) l = Stops fault
+read_of (Ok at) l = Goes (reading_of at l)
+read_of (Err f) l = Stops (fault_of f)
 
 -- the fronts lie inside, and cells have as many identifiers
 pub record Inside (at : At) (l : Lent) : Type 0 where
@@ -52,8 +80,8 @@ pub record Inside (at : At) (l : Lent) : Type 0 where
   pub locals : length l.locals ≡ 256
 
 abbrev pub InsideNext : Next → Lent → Type 0
-InsideNext (GoesTo at) l = Inside at l
-InsideNext (StopsAt fault) l = Unit {0}
+InsideNext (Ok at) l = Inside at l
+InsideNext (Err f) l = Unit {0}
 
 -- what a line leaves in what is lent
 pub record Leaves (what : Read) (next : Next) (after : Lent) : Type 0 where
@@ -115,8 +143,8 @@ abbrev pub kept_of : Progress → List ℕ → Lent → Kept
 kept_of p line l = keeping (reading_of p.at l) line p.begun p.count
 
 abbrev pub fed_of : FedTo → List ℕ → Lent → Fed
-fed_of (KeepsTo p) line l = Keeps (kept_of p line l)
-fed_of (FaultsAt n fault) line l = Faults n fault
+fed_of (Ok p) line l = Keeps (kept_of p line l)
+fed_of (Err e) line l = Faults e.line (fault_of e.fault)
 
 -- 257 bytes are lent for the line
 pub record Ready (p : Progress) (line : List ℕ) (l : Lent) : Type 0 where
@@ -125,8 +153,8 @@ pub record Ready (p : Progress) (line : List ℕ) (l : Lent) : Type 0 where
   pub begun : p.begun ≤ 257
 
 abbrev pub ReadyNext : FedTo → List ℕ → Lent → Type 0
-ReadyNext (KeepsTo p) line l = Ready p line l
-ReadyNext (FaultsAt n fault) line l = Unit {0}
+ReadyNext (Ok p) line l = Ready p line l
+ReadyNext (Err e) line l = Unit {0}
 
 -- what a step over bytes leaves in what is lent
 pub record Feeds (what : Fed) (r : FedTo) (line : List ℕ) (after : Lent) : Type 0 where

@@ -1,3 +1,4 @@
 pub mod Words
+pub mod Spoken
 pub mod Reading
 pub mod Feeding

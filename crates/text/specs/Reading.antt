@@ -133,9 +133,11 @@ event_numbers s =
     choose (eqb s.word 2) (2 ∷ get_or s.numbers 0 0 ∷ (length s.numbers - 1) ∷ drop 1 s.numbers)
     (choose (is_event_word s.word) (s.word ∷ s.numbers) (0 ∷ []))
 
-unfoldable pub event_line : Room → Reading → Said → Read
-event_line room r s =
-    choose (leb (length r.events + length (event_numbers s)) room.events) (Goes (with_event (event_numbers s) r)) (Stops 10)
+unfoldable pub event_put : Room → Reading → List ℕ → Read
+event_put room r es = choose (leb (length r.events + length es) room.events) (Goes (with_event es r)) (Stops 10)
+
+abbrev pub event_line : Room → Reading → Said → Read
+event_line room r s = event_put room r (event_numbers s)
 
 -- ---- a line, and the lines of a file
 

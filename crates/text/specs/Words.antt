@@ -5,7 +5,6 @@ use Rattle.laws.specs.Choose.{choose, ◌and◌, ◌or◌}
 use Rattle.rules.specs.Numbers.{within}
 use Rattle.line.specs.Line.{max_line, fields, are_numbers, numbers, same_bytes, start_word, create_word, ident_word, delete_word, obtain_word, release_word}
 use Rattle.line.specs.Line.{flush_word, tick_word}
-use Rattle.text.specs.declared.vocabulary.Spoken.{Spoken}
 
 abbrev pub turn_word : List ℕ
 turn_word = 116 ∷ 117 ∷ 114 ∷ 110 ∷ []
@@ -93,10 +92,6 @@ pub record Said : Type 0 where
 
 abbrev pub says : ℕ → List ℕ → Said
 says w ns = record { word = w; numbers = ns }
-
--- what the code keeps of it: a word with so many numbers
-unfoldable pub kept : ℕ → ℕ → Spoken
-kept w n = choose (count_fits w n) (record { word = w; count = n }) (record { word = 0; count = 0 })
 
 -- lines as in a session: single spaces, decimal numbers, at most 256 bytes
 unfoldable pub said_by : List ℕ → Said

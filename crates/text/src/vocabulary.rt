@@ -1,214 +1,178 @@
 // A line's word and numbers.
-ghost use Rattle.std.specs.Prelude.{◌≡◌, ◌≤◌, length, take};
-ghost use Rattle.text.specs.Words.{event_word, script_part, word_number, is_event_word, is_step_word, opens_scripts, takes, count_fits, says, said_by, kept};
+ghost use Rattle.std.specs.Prelude.{◌≡◌, ◌≤◌, length, find, IfSome};
+ghost use Rattle.std.specs.Str.{bytes_eq};
+ghost use Rattle.text.specs.Words.{is_event_word, is_step_word, opens_scripts, count_fits, said_by};
+ghost use Rattle.text.specs.Spoken.{number_of, text_of, every_word, said_of};
 
-use line::Numbers;
+/// The words of lines.
+#[derive(Clone, Copy, Debug, PartialEq, Eq)]
+pub enum Word {
+    Turn = 1,
+    Start = 2,
+    Create = 3,
+    Ident = 4,
+    Delete = 5,
+    Obtain = 6,
+    Release = 7,
+    Flush = 8,
+    Tick = 9,
+    Script = 11,
+    Section = 12,
+    Load = 13,
+    Store = 14,
+    Set = 15,
+    Add = 16,
+    Cell = 17,
+    Local = 18,
+    End = 19,
+    Run = 20,
+}
 
-// The numbers of the words: events' as a run's events, those of scripts as a script's rows and 10 more.
-pub const TURN: u32 = 1;
-
-pub const START: u32 = 2;
-
-pub const CREATE: u32 = 3;
-
-pub const IDENT: u32 = 4;
-
-pub const DELETE: u32 = 5;
-
-pub const OBTAIN: u32 = 6;
-
-pub const RELEASE: u32 = 7;
-
-pub const FLUSH: u32 = 8;
-
-pub const TICK: u32 = 9;
-
-pub const SCRIPT: u32 = 11;
-
-pub const SECTION: u32 = 12;
-
-pub const LOAD: u32 = 13;
-
-pub const STORE: u32 = 14;
-
-pub const SET: u32 = 15;
-
-pub const ADD: u32 = 16;
-
-pub const CELL: u32 = 17;
-
-pub const LOCAL: u32 = 18;
-
-pub const END: u32 = 19;
-
-pub const RUN: u32 = 20;
-
-const TAKES: [usize; 21] = [
-    0, 1, 1, 5, 1, 2, 4, 2, 2, 0, 0, 1, 3, 2, 2, 2, 2, 2, 3, 0, 0,
-];
-
-// What a line says: its word and how many numbers, 0 and none where it is no line of these.
+/// What a line says: a word and as many numbers as it takes.
 #[derive(Clone, Copy)]
-pub struct Spoken {
-    pub word: u32,
-    pub count: usize,
+pub struct Spoken<'a> {
+    pub word: Word,
+    pub numbers: &'a [u32],
 }
 
-fn event_word(word: &[u8]) -> u32
-    ensures { result ≡ event_word word.now }
+impl Word {
+    // In the order of their numbers.
+    const EVERY: [Word; 19] = [
+        Word::Turn,
+        Word::Start,
+        Word::Create,
+        Word::Ident,
+        Word::Delete,
+        Word::Obtain,
+        Word::Release,
+        Word::Flush,
+        Word::Tick,
+        Word::Script,
+        Word::Section,
+        Word::Load,
+        Word::Store,
+        Word::Set,
+        Word::Add,
+        Word::Cell,
+        Word::Local,
+        Word::End,
+        Word::Run,
+    ];
+
+    // The bytes that a line has for the word.
+    fn text(self) -> &'static [u8]
+        ensures { result.now ≡ text_of self }
+    {
+        match self {
+            Word::Turn => b"turn",
+            Word::Start => b"start",
+            Word::Create => b"create",
+            Word::Ident => b"ident",
+            Word::Delete => b"delete",
+            Word::Obtain => b"obtain",
+            Word::Release => b"release",
+            Word::Flush => b"flush",
+            Word::Tick => b"tick",
+            Word::Script => b"script",
+            Word::Section => b"section",
+            Word::Load => b"load",
+            Word::Store => b"store",
+            Word::Set => b"set",
+            Word::Add => b"add",
+            Word::Cell => b"cell",
+            Word::Local => b"local",
+            Word::End => b"end",
+            Word::Run => b"run",
+        }
+    }
+
+    /// The word's number: an event's as a run's event, that of a step or a script as a script's row and 10 more.
+    pub fn number(self) -> u32
+        ensures { result ≡ number_of self }
+    {
+        self as u32
+    }
+
+    // Whether so many numbers may stand behind the word; a start takes one and then any count of priorities.
+    #[tactic(auto, unfolding(crate::specs::Words::count_fits, crate::specs::Words::takes, laws::specs::Choose::choose))]
+    fn takes(self, count: usize) -> bool
+        ensures { result ≡ count_fits (number_of self) count }
+    {
+        match self {
+            Word::Start => 1 <= count,
+            Word::Tick | Word::End | Word::Run => count == 0,
+            Word::Turn | Word::Ident | Word::Script => count == 1,
+            Word::Delete
+            | Word::Release
+            | Word::Flush
+            | Word::Load
+            | Word::Store
+            | Word::Set
+            | Word::Add
+            | Word::Cell => count == 2,
+            Word::Section | Word::Local => count == 3,
+            Word::Obtain => count == 4,
+            Word::Create => count == 5,
+        }
+    }
+
+    /// Whether the word is an event's.
+    #[tactic(auto, unfolding(laws::specs::Choose::choose))]
+    pub fn is_event(self) -> bool
+        ensures { result ≡ is_event_word (number_of self) }
+    {
+        matches!(
+            self,
+            Word::Turn
+                | Word::Start
+                | Word::Create
+                | Word::Ident
+                | Word::Delete
+                | Word::Obtain
+                | Word::Release
+                | Word::Flush
+                | Word::Tick
+        )
+    }
+
+    /// Whether the word is a step's.
+    #[tactic(auto, unfolding(laws::specs::Choose::choose))]
+    pub fn is_step(self) -> bool
+        ensures { result ≡ is_step_word (number_of self) }
+    {
+        matches!(self, Word::Load | Word::Store | Word::Set | Word::Add)
+    }
+
+    /// Whether the second part of a file begins with the word.
+    #[tactic(auto, unfolding(laws::specs::Choose::choose))]
+    pub fn opens_scripts(self) -> bool
+        ensures { result ≡ opens_scripts (number_of self) }
+    {
+        matches!(self, Word::Script | Word::Cell | Word::Local | Word::Run)
+    }
+}
+
+fn word_of(word: &[u8]) -> Option<Word>
+    ensures { result ≡ find (λ v. bytes_eq word.now (text_of v)) every_word }
 {
-    if line::same_bytes(word, b"turn") {
-        return TURN;
-    }
-    if line::same_bytes(word, b"start") {
-        return START;
-    }
-    if line::same_bytes(word, b"create") {
-        return CREATE;
-    }
-    if line::same_bytes(word, b"ident") {
-        return IDENT;
-    }
-    if line::same_bytes(word, b"delete") {
-        return DELETE;
-    }
-    if line::same_bytes(word, b"obtain") {
-        return OBTAIN;
-    }
-    if line::same_bytes(word, b"release") {
-        return RELEASE;
-    }
-    if line::same_bytes(word, b"flush") {
-        return FLUSH;
-    }
-    if line::same_bytes(word, b"tick") {
-        return TICK;
-    }
-    0
+    Word::EVERY.iter().copied().find(|v| word == v.text())
 }
 
-fn script_word(word: &[u8]) -> u32
-    ensures { result ≡ script_part word.now }
-{
-    if line::same_bytes(word, b"script") {
-        return SCRIPT;
-    }
-    if line::same_bytes(word, b"section") {
-        return SECTION;
-    }
-    if line::same_bytes(word, b"load") {
-        return LOAD;
-    }
-    if line::same_bytes(word, b"store") {
-        return STORE;
-    }
-    if line::same_bytes(word, b"set") {
-        return SET;
-    }
-    if line::same_bytes(word, b"add") {
-        return ADD;
-    }
-    if line::same_bytes(word, b"cell") {
-        return CELL;
-    }
-    if line::same_bytes(word, b"local") {
-        return LOCAL;
-    }
-    if line::same_bytes(word, b"end") {
-        return END;
-    }
-    if line::same_bytes(word, b"run") {
-        return RUN;
-    }
-    0
-}
-
-fn word_number(word: &[u8]) -> u32
-    ensures { result ≡ word_number word.now }
-{
-    let event = event_word(word);
-    if event == 0 {
-        return script_word(word);
-    }
-    event
-}
-
-fn number_count(word: u32) -> usize
-    ensures { result ≡ takes word }
-{
-    if word < 21 {
-        return TAKES[word as usize];
-    }
-    0
-}
-
-fn is_count(word: u32, n: usize) -> bool
-    ensures { result ≡ count_fits word n }
-{
-    if word == START {
-        return 1 <= n;
-    }
-    n == number_count(word)
-}
-
-pub fn is_event(word: u32) -> bool
-    ensures { result ≡ is_event_word word }
-{
-    if word < TURN {
-        return false;
-    }
-    word <= TICK
-}
-
-pub fn is_step(word: u32) -> bool
-    ensures { result ≡ is_step_word word }
-{
-    if word < LOAD {
-        return false;
-    }
-    word <= ADD
-}
-
-// Whether the second part of a file begins with the word.
-pub fn opens_scripts(word: u32) -> bool
-    ensures { result ≡ opens_scripts word }
-{
-    if word == SCRIPT {
-        return true;
-    }
-    if word == CELL {
-        return true;
-    }
-    if word == LOCAL {
-        return true;
-    }
-    word == RUN
-}
-
-// A word with so many numbers.
-fn counted(word: u32, count: usize) -> Spoken
-    ensures { result ≡ kept word count }
-{
-    if is_count(word, count) {
-        return Spoken { word, count };
-    }
-    Spoken { word: 0, count: 0 }
-}
-
-// Reading ends at the first byte that breaks the line. The numbers of the line are left in `numbers`.
-pub fn said(line: &[u8], numbers: &mut [u32; 128]) -> Spoken
-    ensures { (said_by line.now ≡ says result.word (take result.count numbers.new)) × (result.count ≤ length numbers.new) }
+/// What a line says, or `None` where it is no line of these. Reading ends at the first byte that breaks the line; the numbers are those left
+/// in `room`.
+pub fn said<'a>(line: &[u8], room: &'a mut [u32; 128]) -> Option<Spoken<'a>>
+    ensures says { said_by line.now ≡ said_of result }
+    ensures few { IfSome result (λ s. length s.numbers.now ≤ 128) }
 {
     if 256 < line.len() {
-        return Spoken { word: 0, count: 0 };
+        return None;
     }
     let n = line::word_length(line);
-    let word = word_number(&line[..n]);
-    if word == 0 {
-        return Spoken { word: 0, count: 0 };
+    let word = word_of(&line[..n])?;
+    let count = line::read_numbers(line, n, room)?;
+    if !word.takes(count) {
+        return None;
     }
-    match line::read_numbers(line, n, numbers) {
-        Numbers::Broken => Spoken { word: 0, count: 0 },
-        Numbers::Count(count) => counted(word, count),
-    }
+    let numbers = &room[..count];
+    Some(Spoken { word, numbers })
 }

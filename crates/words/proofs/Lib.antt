@@ -1,2 +1,3 @@
 pub mod WordsInBytes
 pub mod Stores
+pub mod Ranges

@@ -13,14 +13,6 @@ bytes_of (w ∷ ws) = bytes_of_word w ++ bytes_of ws
 unfoldable pub word_at : List ℕ → ℕ → ℕ
 word_at bs i = get_or bs (4 * i) 0 * 16777216 + get_or bs (4 * i + 1) 0 * 65536 + get_or bs (4 * i + 2) 0 * 256 + get_or bs (4 * i + 3) 0
 
--- a word's four bytes the other way round
-abbrev pub swapped : ℕ → ℕ
-swapped w = w % 256 * 16777216 + w / 256 % 256 * 65536 + w / 65536 % 256 * 256 + w / 16777216
-
--- the bytes of a word that was turned round, low byte first: those of the word itself
-abbrev pub bytes_of_swapped : ℕ → List ℕ
-bytes_of_swapped w = w % 256 ∷ w / 256 % 256 ∷ w / 65536 % 256 ∷ w / 16777216 ∷ []
-
 -- every word from index `from` up to `to` is 0
 unfoldable pub blank : List ℕ → ℕ → ℕ → Bool
 blank bs from to = all (to - from) (λ k. eqb (word_at bs (from + k)) 0)

@@ -1,102 +1,70 @@
 // Words of four bytes, high byte first, in lent bytes. Every index counts words.
 #![tactic(auto)]
 
-ghost use Rattle.std.specs.Prelude.{◌≡◌, ◌+◌, ◌*◌, ◌≤◌, ◌<◌, length};
+ghost use Rattle.std.specs.Prelude.{◌≡◌, ◌+◌, ◌*◌, ◌≤◌, ◌<◌, eqb, length};
 ghost use Rattle.std.proofs.lemmas.List.Edits.{sets};
-ghost use Rattle.words.specs.Words.{bytes_of_word, bytes_of_swapped, bytes_of, word_at, blank, same_words, swapped};
+ghost use Rattle.words.specs.Words.{bytes_of_word, bytes_of, word_at, blank, same_words};
 
-fn wide(b: u8) -> u32
-    ensures { (result ≡ b) × (result < 256) }
-{
-    b as u32
-}
-
-// A word's four bytes the other way round.
-fn swapped(w: u32) -> u32
-    ensures { result ≡ swapped w }
-{
-    w % 256 * 16777216 + w / 256 % 256 * 65536 + w / 65536 % 256 * 256 + w / 16777216
-}
-
-// The bytes of a word, read low byte first: in that order the compiler makes one load of them.
-fn swapped_word(m: &[u8], i: usize) -> u32
-    requires { 4 * i + 4 ≤ length m.now }
-    ensures { swapped result ≡ word_at m.now i }
-{
-    let at = 4 * i;
-    wide(m[at]) + wide(m[at + 1]) * 256 + wide(m[at + 2]) * 65536 + wide(m[at + 3]) * 16777216
-}
-
+/// Word `i` of the bytes.
+#[tactic(auto, unfolding(crate::specs::Words::word_at))]
 pub fn word(m: &[u8], i: usize) -> u32
     requires { 4 * i + 4 ≤ length m.now }
     ensures { result ≡ word_at m.now i }
 {
-    swapped(swapped_word(m, i))
-}
-
-// Low byte first, as it is read: in that order the compiler makes one store of them.
-fn set_swapped_word(m: &mut [u8], i: usize, w: u32)
-    requires { 4 * i + 4 ≤ length m.old }
-    ensures { m.new ≡ sets m.old (4 * i) (bytes_of_swapped w) }
-{
     let at = 4 * i;
-    m[at] = (w % 256) as u8;
-    m[at + 1] = (w / 256 % 256) as u8;
-    m[at + 2] = (w / 65536 % 256) as u8;
-    m[at + 3] = (w / 16777216) as u8;
+    u32::from_be_bytes([m[at], m[at + 1], m[at + 2], m[at + 3]])
 }
 
+/// Another word at place `i`.
 pub fn set_word(m: &mut [u8], i: usize, w: u32)
     requires { 4 * i + 4 ≤ length m.old }
     ensures { m.new ≡ sets m.old (4 * i) (bytes_of_word w) }
 {
-    set_swapped_word(m, i, swapped(w));
+    let at = 4 * i;
+    let [first, second, third, fourth] = w.to_be_bytes();
+    m[at] = first;
+    m[at + 1] = second;
+    m[at + 2] = third;
+    m[at + 3] = fourth;
 }
 
-// The words of a row, from index i on.
+/// The words of a row, from place `i` on.
 pub fn set_words(m: &mut [u8], i: usize, row: &[u32])
     requires { 4 * i + 4 * length row.now ≤ length m.old }
     ensures { m.new ≡ sets m.old (4 * i) (bytes_of row.now) }
 {
-    let mut k = 0;
-    while k < row.len() {
+    // by places: on other processors an iterator over the row's words is a pair with a pointer, which takes more stack
+    for k in 0..row.len() {
         set_word(m, i + k, row[k]);
-        k += 1;
     }
 }
 
-// Whether the words of a row stand from index i on.
+/// Whether the words of a row stand from place `i` on.
 pub fn are_words(m: &[u8], i: usize, row: &[u32]) -> bool
     requires { 4 * i + 4 * length row.now ≤ length m.now }
     ensures { result ≡ same_words m.now i row.now }
 {
-    let mut k = 0;
-    while k < row.len() {
-        if word(m, i + k) != row[k] {
-            return false;
-        }
-        k += 1;
-    }
-    true
+    (0..row.len()).all(|k| word(m, i + k) == row[k])
 }
 
-// 0 exactly where both are.
-fn bits_of_both(a: u32, b: u32) -> u32
-    ensures { (a ≤ result) × (b ≤ result) × (result ≤ a + b) }
+// A word in the order in which most processors read it, for those who ask whether it is 0.
+#[tactic(auto, unfolding(crate::specs::Words::word_at))]
+fn raw_word(m: &[u8], i: usize) -> u32
+    requires { 4 * i + 4 ≤ length m.now }
+    ensures { eqb result 0 ≡ eqb (word_at m.now i) 0 }
 {
-    a | b
+    let at = 4 * i;
+    u32::from_le_bytes([m[at], m[at + 1], m[at + 2], m[at + 3]])
 }
 
-// Whether every word from `from` up to `to` is 0. No way out before the end, so that several are read at once.
+/// Whether every word from `from` up to `to` is 0. No way out before the end, so that several are read at once.
 pub fn is_blank(m: &[u8], from: usize, to: usize) -> bool
     requires { 4 * to ≤ length m.now }
     ensures { result ≡ blank m.now from to }
 {
-    let mut seen: u32 = 0;
-    let mut k = from;
-    while k < to {
-        seen = bits_of_both(seen, swapped_word(m, k));
-        k += 1;
+    let mut seen = 0;
+    for k in from..to {
+        seen |= raw_word(m, k);
     }
     seen == 0
 }

@@ -1,14 +1,11 @@
--- `agreement::is_queue_agreeing` meets its contract. The invariant: the places passed and the marks made there.
--- ---- what is known at a place
--- ---- the needs
-use Prim.Native.Nat.{◌-◌}
-use Rattle.tables.specs.Layout.{slot_with, model_of}
-use Rattle.agreement.proofs.Queues.{Passed}
-use Rattle.agreement.proofs.Model.{queue_in}
+use Rattle.std.specs.Prelude.{suc, Some}
+use Rattle.rules.specs.Machine.{slot_of}
+use Rattle.tables.specs.Layout.{model_of}
+use Rattle.agreement.specs.Tests.{seen_at, place_agrees}
+use Rattle.agreement.proofs.Walks.{Passed}
 use Rattle.agreement.proofs.is_queue_agreeing.Given as goal
 
 abbrev pub invariant-loop-k : goal.invariant-loop-k
-invariant-loop-k l = Passed (model_of l.m) l.initial.seen l.id (slot_with l.s (queue_in l.m l.i)) l.k l.seen
-
-abbrev pub decreases-loop-k : goal.decreases-loop-k
-decreases-loop-k l = l.waiters - l.k
+invariant-loop-k l =
+    let s = slot_of (model_of l.v.bytes.now) (suc l.i) in
+    Passed (place_agrees (model_of l.v.bytes.now) l.initial.marks s.owner (Some l.id) s.queue) (seen_at l.initial.marks s.queue) l.k l.marks

@@ -1,13 +1,10 @@
--- `agreement::is_sequence_agreeing` meets its contract. The invariant: the places passed and the marks made there.
--- ---- what is known at a place
--- ---- the needs
-use Prim.Native.Nat.{◌-◌}
+use Rattle.std.specs.Prelude.{None}
 use Rattle.tables.specs.Layout.{model_of}
-use Rattle.agreement.proofs.Sequence.{Passed}
+use Rattle.agreement.specs.Tests.{seen_at, place_agrees}
+use Rattle.agreement.proofs.Walks.{Passed}
 use Rattle.agreement.proofs.is_sequence_agreeing.Given as goal
 
 abbrev pub invariant-loop-k : goal.invariant-loop-k
-invariant-loop-k l = Passed (model_of l.m) l.initial.seen l.k l.seen
-
-abbrev pub decreases-loop-k : goal.decreases-loop-k
-decreases-loop-k l = l.ready - l.k
+invariant-loop-k l =
+    let ready = (model_of l.v.bytes.now).ready in
+    Passed (place_agrees (model_of l.v.bytes.now) l.initial.marks 0 None ready) (seen_at l.initial.marks ready) l.k l.marks

@@ -10,8 +10,8 @@ returns-then-slot_waiters-eq0 c =
     slot_quiet first.m.now first.i first.expired (λ k. omega (arith, c.slice_known-1.given k)) (omega arith) _
     c.slot_waiters.ensures (omega arith)
 
-pub without-rest-requires : goal.without-rest-requires
-without-rest-requires c =
+pub without-requires : goal.without-requires
+without-requires c =
     let pre = c.requires in
     queues_same c.load_slot-s.ensures (pre.2, pre.3)
 
@@ -19,4 +19,4 @@ pub returns : goal.returns
 returns c =
     let first = c.args in
     slot_shortened first.m.now first.i first.expired (λ k. omega (arith, c.slice_known-1.given k)) (omega (arith, c.requires)) _ _ _
-    c.load_slot-s.ensures c.without-rest.ensures c.store_slot.ensures
+    c.load_slot-s.ensures c.without.ensures c.store_slot.ensures

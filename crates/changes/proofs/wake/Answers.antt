@@ -7,4 +7,4 @@ pub returns : goal.returns
 returns c =
     let first = c.args in
     task_woken first.m.now _ _ first.q first.answer _ _ (λ k. omega (arith, c.slice_known-1.given k)) (omega arith) (omega arith)
-    c.load_task-v.ensures c.readied-ready.ensures c.put_task.ensures c.add_ready.ensures
+    c.load_task-v.ensures c.readied.ensures c.put_task.ensures c.add_ready.ensures

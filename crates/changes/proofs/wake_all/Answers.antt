@@ -10,7 +10,7 @@ use Rattle.changes.proofs.wake_all.Goals as goal
 pub loop-k-init : goal.loop-k-init
 loop-k-init c =
     let first = c.args in
-    (omega arith, omega arith, woken_none first.m.now first.queue first.waiters first.answer)
+    woken_none first.m.now first.queue first.waiters first.answer
 
 pub wake-requires : goal.wake-requires
 wake-requires c =
@@ -20,15 +20,12 @@ wake-requires c =
 
 pub loop-k-preserved : goal.loop-k-preserved
 loop-k-preserved c =
-    let first = c.args in (
-      omega arith,
-      omega (arith, c.wake.auto),
-      woken_more first.m.now first.queue first.waiters first.answer c.loop-k.m _ c.loop-k.k (omega arith) (omega arith)
-          c.loop-k.invariant.2 c.wake.ensures,
-    )
+    let first = c.args in
+    woken_more first.m.now first.queue first.waiters first.answer c.loop-k.m _ c.loop-k.k (omega arith) (omega arith)
+    c.loop-k.invariant c.wake.ensures
 
 pub returns : goal.returns
 returns c t e n few =
     let first = c.args in
     let k : c.loop-k.k ≡ first.waiters = omega arith in
-    c.loop-k.invariant.2 t e n few ∙ ap (λ (k : ℕ). laid (wake_all t (take k first.queue) first.answer)) k
+    c.loop-k.invariant t e n few ∙ ap (λ (k : ℕ). laid (wake_all t (take k first.queue) first.answer)) k

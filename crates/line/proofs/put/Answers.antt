@@ -1,45 +1,12 @@
-use mathlib.Core.List.{List}
-use mathlib.Core.Path.{◌≡◌, sym, ap, ◌∙◌}
-use Prim.Native.Nat.{ℕ, ◌+◌}
-use native.Mathlib.Numerals.{add-one}
+-- `line::put` meets its contract: what a copy into a part leaves.
+use mathlib.Core.Path.{refl, ◌∙◌}
 use native.Mathlib.Omega.{arith}
-use lib.ListN.{length, get_or, set}
-use lib.Seq.{paste, paste-zero, paste-suc, length-paste}
+use lib.ListN.{length}
+use Rattle.std.proofs.lemmas.Slice.{put_mid-paste}
 use Rattle.line.proofs.Printing.{spliced_paste}
 use Rattle.line.proofs.put.Goals as goal
 
-pub loop-i-init : goal.loop-i-init
-loop-i-init c = (omega arith, paste-zero c.args.out.now c.args.at c.args.text.now)
-
-pub bounds-out-at : goal.bounds-out-at
-bounds-out-at c =
-    let d : List ℕ = c.args.out.now in
-    let at : ℕ = c.args.at in
-    let s : List ℕ = c.args.text.now in
-    let i : ℕ = c.loop-i.i in
-    omega (arith, ap length c.loop-i.invariant.1, length-paste d at s i (omega arith) (omega arith))
-
-pub loop-i-preserved : goal.loop-i-preserved
-loop-i-preserved c =
-    let d : List ℕ = c.args.out.now in
-    let at : ℕ = c.args.at in
-    let s : List ℕ = c.args.text.now in
-    let i : ℕ = c.loop-i.i in (
-      omega arith,
-      ap (λ (l : List ℕ). set l (at + i) (get_or s i 0)) c.loop-i.invariant.1 ∙ paste-suc d at s i 0 (omega arith) (omega arith)
-          ∙ ap (paste d at s) (sym (add-one i)),
-    )
-
-pub shape_of-out : goal.shape_of-out
-shape_of-out c =
-    ap length c.loop-i.invariant.1
-    ∙ length-paste c.args.out.now c.args.at c.args.text.now c.loop-i.i
-    (omega arith) (omega arith)
-
 pub returns : goal.returns
-returns c =
-    let d : List ℕ = c.args.out.now in
-    let at : ℕ = c.args.at in
-    let s : List ℕ = c.args.text.now in
-    let whole : c.loop-i.i ≡ length s = omega arith in
-    (ap (λ (n : ℕ). at + n) whole, c.loop-i.invariant.1 ∙ ap (paste d at s) whole ∙ spliced_paste at s d)
+returns g c =
+    let xs = c.args.xs.now in
+    (refl, put_mid-paste _ _ _ _ xs (length xs) c.copy_from_slice.ensures.after (omega arith) refl ∙ spliced_paste c.args.at xs c.args.out.now)

@@ -1,18 +1,22 @@
--- `line::put_number` meets its contract: what is put is the part of the bytes that is the number's text.
-use mathlib.Core.List.{List, ◌++◌, ◌∷◌, []}
+-- `line::put_number` meets its contract: the text is that of the number.
+use mathlib.Core.List.{List}
 use mathlib.Core.Path.{ap, ◌∙◌}
-use Prim.Native.Nat.{ℕ, ◌+◌}
+use Prim.Native.Nat.{ℕ, ◌+◌, ◌^◌, ◌<◌}
+use native.Mathlib.Omega.{arith}
 use lib.ListN.{length}
-use Rattle.line.specs.Print.{decimal, spliced}
-use Rattle.line.proofs.Printing.{part_is}
+use Rattle.line.specs.Print.{spliced}
+use Rattle.line.proofs.Printing.{decimal_is}
 use Rattle.line.proofs.put_number.Goals as goal
+
+pub put-requires : goal.put-requires
+put-requires c =
+    let small : c.args.v < 2 ^ 32 = omega arith in
+    omega (arith, ap length (c.as_bytes.ensures.value ∙ c.format.ensures.text ∙ decimal_is c.args.v small))
 
 pub returns : goal.returns
 returns c =
-    let made = c.text_of-t in
-    let text : List ℕ = decimal c.args.v ++ c.args.end ∷ [] in
-    let part = part_is made.result.bytes text made.result.from made.ensures.0 made.ensures.2 in
-    let put = c.put.ensures in (
-      put.0 ∙ ap (λ (t : List ℕ). c.args.at + length t) part,
-      put.1 ∙ ap (λ (t : List ℕ). spliced c.args.at t c.args.out.now) part,
+    let small : c.args.v < 2 ^ 32 = omega arith in
+    let text = c.as_bytes.ensures.value ∙ c.format.ensures.text ∙ decimal_is c.args.v small in (
+      c.put.ensures.0 ∙ ap (λ (t : List ℕ). c.args.at + length t) text,
+      c.put.ensures.1 ∙ ap (λ (t : List ℕ). spliced c.args.at t c.args.out.now) text,
     )

@@ -61,10 +61,10 @@ loop-begin-preserved c =
       omega arith,
       omega (arith, in_line l at goes),
       c.loop-begin.invariant.2
-          ∙ number_goes_on l at ns (at - begin) value goes c.in-Value.v
+          ∙ number_goes_on l at ns (at - begin) value goes c.in-Some.longer
           (ap (digit_behind (at - begin) value) (sym c.byte_at-b.ensures) ∙ sym
-          c.digit_behind.ensures ∙ c.in-Value.is)
-          ∙ ap (λ (n : ℕ). inside ns n c.in-Value.v (drop (at + 1) l)) one_more,
+          c.digit_behind.ensures ∙ c.in-Some.is)
+          ∙ ap (λ (n : ℕ). inside ns n c.in-Some.longer (drop (at + 1) l)) one_more,
     )
 
 pub fields-preserved : goal.fields-preserved
@@ -108,8 +108,8 @@ returns-then-at-begin c =
       omega arith,
     )
 
-pub returns-in-Broken : goal.returns-in-Broken
-returns-in-Broken c =
+pub returns-in_default : goal.returns-in_default
+returns-in_default c =
     let l : List ℕ = c.args.line.now in
     let ns : List ℕ = take c.fields.count
     c.fields.numbers in
@@ -119,6 +119,6 @@ returns-in-Broken c =
     let goes : (get_or l at 32 ≡ 32 → ⊥) = λ e. c.if-b-eq32.false (c.byte_at-b.ensures ∙ e) in (
       c.loop-begin.invariant.2 ∙ number_breaks l at ns (at - begin) value goes
           (ap (digit_behind (at - begin) value) (sym c.byte_at-b.ensures) ∙ sym c.digit_behind.ensures
-          ∙ c.in-Broken.is),
+          ∙ c.in_default.is),
       omega arith,
     )

@@ -1,28 +1,14 @@
-use mathlib.Core.Path.{◌≡◌, sym, ap, ◌∙◌}
-use Prim.Native.Nat.{ℕ}
-use native.Mathlib.Omega.{arith}
+use Rattle.std.proofs.Common.{rules, tests, ◌∙◌, take}
+use Rattle.std.proofs.lemmas.Iterator.{YieldsList-from_slice}
+use Rattle.std.proofs.lemmas.Iterator.Search.{all_from_yields_List}
+use Rattle.laws.specs.Choose.{isnt, choose}
+use lib.Dec.{eqb}
 use Rattle.mapping.specs.Mapping.{is_new}
-use Rattle.mapping.proofs.Tests.{new_none, new_more, not_new}
+use Rattle.mapping.proofs.Listed.{all_taken}
 use Rattle.mapping.proofs.is_new.Goals as goal
 
-pub loop-j-init : goal.loop-j-init
-loop-j-init c = (omega arith, new_none c.args.list.now c.args.id)
-
-pub returns-then-list-j : goal.returns-then-list-j
-returns-then-list-j c =
-    let turn = c.loop-j in
-    let first = c.args in
-    not_new first.list.now first.id first.k turn.j (omega arith) c.if-list-j.true
-
-pub loop-j-preserved : goal.loop-j-preserved
-loop-j-preserved c =
-    let turn = c.loop-j in
-    let first = c.args in
-    (omega arith, new_more first.list.now first.id turn.j turn.invariant.1 c.if-list-j.false)
-
 pub returns : goal.returns
+unfolding is_new choose
 returns c =
-    let turn = c.loop-j in
-    let first = c.args in
-    let end : turn.j ≡ first.k = omega arith in
-    sym turn.invariant.1 ∙ ap (λ (k : ℕ). is_new first.list.now k first.id) end
+    all_from_yields_List (λ x. isnt (eqb x c.args.id)) _ _ _ c.all.ensures.ran (YieldsList-from_slice (take c.args.k c.args.list.now) c.iter.ensures.rest) (λ x b q k. search (rules, tests))
+    ∙ all_taken (λ x. isnt (eqb x c.args.id)) c.args.list.now c.args.k c.requires

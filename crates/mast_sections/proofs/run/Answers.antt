@@ -47,6 +47,3 @@ returns-clause-answers g c = c.work.ensures.answers some
 
 pub returns-clause-printed : goal.returns-clause-printed
 returns-clause-printed g c = c.work.ensures.printed some
-
-pub returns-clause-failing : goal.returns-clause-failing
-returns-clause-failing g c = c.work.ensures.failing some

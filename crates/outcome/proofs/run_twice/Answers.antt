@@ -11,11 +11,11 @@ abbrev After-run : Type 0
 After-run = lts.After-run tie.the-claims reads.Pre reads.Post tie.handed_clauses
 
 -- the plain run starts from what the run starts from
-cells_copied : (c : After-run) → c.copy.new.to ≡ c.args.cells.now
-cells_copied c = c.copy.ensures
+cells_copied : (c : After-run) → c.copy_from_slice.new.self ≡ c.args.cells.now
+cells_copied c = c.copy_from_slice.ensures.after
 
-locals_copied : (c : After-run) → c.copy-2.new.to ≡ c.args.locals.now
-locals_copied c = c.copy-2.ensures
+locals_copied : (c : After-run) → c.copy_from_slice-2.new.self ≡ c.args.locals.now
+locals_copied c = c.copy_from_slice-2.ensures.after
 
 pub grants_end-end-requires : goal.grants_end-end-requires
 grants_end-end-requires c =
@@ -31,7 +31,7 @@ plain_run-requires c =
 
 pub shape_of-plaincells-then-a-eq0 : goal.shape_of-plaincells-then-a-eq0
 shape_of-plaincells-then-a-eq0 c =
-    omega (arith, c.plain_run.auto, c.copy.auto)
+    omega (arith, c.plain_run.auto, c.copy_from_slice.auto)
 
 pub returns-then-a-eq0 : goal.returns-then-a-eq0
 returns-then-a-eq0 c = record { done = c.run-a.ensures; plainly = granted_plainly _ _ _ _ _ _ _ _ c.grants_end-end.ensures.2 (cells_copied c.before.before.before.before.before.before.before.before.before.before.before.before.before.before.before.before.before.before.before.before.before.before) (locals_copied c.before.before.before.before.before.before.before.before.before.before.before.before.before.before.before.before.before.before.before.before.before.before) c.plain_run.ensures }

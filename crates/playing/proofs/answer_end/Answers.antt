@@ -1,13 +1,15 @@
-use Rattle.std.proofs.Common.{arith, subst}
-use Rattle.session.specs.Kept.{keeps}
+use Rattle.std.proofs.Common.{arith, sym, length-take-le, ◌≤◌, length, subst}
 use Rattle.playing.specs.Streams.{WritesAll}
 use Rattle.playing.proofs.Turning.{end_within, end_text}
 use Rattle.playing.proofs.answer_end.Goals as goal
 
-pub say_last-requires : goal.say_last-requires
-say_last-requires g c = omega (arith, end_within (keeps c.args.m.now c.args.line.now c.args.begun) c.finish-n.ensures)
+pub slice_bounds-out-end : goal.slice_bounds-out-end
+slice_bounds-out-end g c = omega (arith, end_within _ c.finish-n.ensures)
+
+pub slice_bounds-say_answers-end : goal.slice_bounds-say_answers-end
+slice_bounds-say_answers-end g c =
+    let fits : c.finish-n.result ≤ length c.finish-n.new.out = omega (arith, end_within _ c.finish-n.ensures) in
+    sym (length-take-le c.finish-n.result c.finish-n.new.out fits)
 
 pub returns-clause-written : goal.returns-clause-written
-returns-clause-written g c =
-    subst (WritesAll c.say_last.result.ended (g.W.Write.contents c.args.writer.now) (g.W.Write.contents c.say_last.new.writer))
-    (end_text (keeps c.args.m.now c.args.line.now c.args.begun) c.finish-n.ensures) c.say_last.ensures.written
+returns-clause-written g c = subst (WritesAll c.say_answers.result _ _) (end_text _ c.finish-n.ensures) c.say_answers.ensures

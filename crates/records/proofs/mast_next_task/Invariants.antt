@@ -1,10 +1,6 @@
-use Prim.Native.Nat.{◌-◌, ◌≤◌}
-use lib.ListN.{length}
+-- What is left of the sequence, from the best so far, gives the next task.
 use Rattle.records.proofs.Along.{UrgentFrom}
 use Rattle.records.proofs.mast_next_task.Given as goal
 
-abbrev pub invariant-loop-k : goal.invariant-loop-k
-invariant-loop-k l = (l.k ≤ length l.ready) × UrgentFrom l.tasks l.ready l.working l.k l.best.task l.best.priority
-
-abbrev pub decreases-loop-k : goal.decreases-loop-k
-decreases-loop-k l = length l.ready - l.k
+abbrev pub invariant-loop-q : goal.invariant-loop-q
+invariant-loop-q l = UrgentFrom l.tasks l.ready l.working l.q-index l.best.task l.best.priority

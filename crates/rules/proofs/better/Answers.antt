@@ -11,6 +11,7 @@ use Rattle.laws.proofs.Choose.{and_both, both_and, if_yes}
 use Rattle.rules.specs.Machine.{Tables, is_task, most_urgent}
 use Rattle.rules.proofs.Choosing.{is_better, passed_over, not_zero, not_beyond}
 use Rattle.rules.proofs.better.Goals as goal
+use Rattle.rules.proofs.better.Goals.{then-q-eq0-via-then-q-eq0, then-q-eq0-via-else-q-eq0+then-tasks-q, then-q-eq0-via-else-q-eq0+else-tasks-q+then-best-priority}
 
 module _ (t : Tables) (u : ℕ → ℕ) (q best p : ℕ) (qs : List ℕ) (x : ℕ) (is : is_task t q ≡ true → u q ≡ x) where
   no_better : p ≤ x → most_urgent t u qs best p ≡ most_urgent t u (q ∷ qs) best p
@@ -29,13 +30,12 @@ module _ (t : Tables) (u : ℕ → ℕ) (q best p : ℕ) (qs : List ℕ) (x : �
       yes = both_and task (lt-ltb (u q) p (omega (arith, is task)))
 
 pub returns-then-q-eq0 : goal.returns-then-q-eq0
-returns-then-q-eq0 c = λ t u qs n e. not_zero t u _ _ _ (omega arith) qs
-
-pub returns-then-tasks-q : goal.returns-then-tasks-q
-returns-then-tasks-q c = λ t u qs n e. not_beyond t u _ _ _ (omega arith) qs
-
-pub returns-then-best-priority : goal.returns-then-best-priority
-returns-then-best-priority c = λ t u qs n e. no_better t u _ _ _ qs _ e (omega arith)
+returns-then-q-eq0 c = λ t u qs n e.
+    elim c.then-q-eq0.branch [
+      | then-q-eq0-via-then-q-eq0 w ↦ not_zero t u _ _ _ (omega arith) qs
+      | then-q-eq0-via-else-q-eq0+then-tasks-q w ↦ not_beyond t u _ _ _ (omega arith) qs
+      | then-q-eq0-via-else-q-eq0+else-tasks-q+then-best-priority w ↦ no_better t u _ _ _ qs _ e (omega arith)
+    ]
 
 pub returns : goal.returns
 returns c = λ t u qs n e. is_better_lem t u _ _ _ qs _ e (omega arith) (omega arith) (omega arith)

@@ -1,13 +1,7 @@
--- `semaphore::filtered` meets its contract: the invariant says that the first k of the queue are passed, and those that still wait are in `out`.
-use mathlib.Core.Path.{◌≡◌}
-use Prim.Native.Nat.{◌-◌, ◌≤◌}
-use lib.ListN.{length}
-use Rattle.semaphore.proofs.Queue.{Passed}
+-- `semaphore::filtered` meets its contract: of the first k of the queue, those that still wait are kept.
+use Rattle.std.proofs.Common.{take}
+use Rattle.semaphore.specs.Record.{keep, KeptIs}
 use Rattle.semaphore.proofs.filtered.Given as goal
 
 abbrev pub invariant-loop-k : goal.invariant-loop-k
-invariant-loop-k l =
-    (length l.queue ≡ 32) × (length l.out ≡ 32) × (length l.expired ≡ 32) × (l.k ≤ l.waiters) × Passed l.expired l.queue l.out l.n l.k
-
-abbrev pub decreases-loop-k : goal.decreases-loop-k
-decreases-loop-k l = l.waiters - l.k
+invariant-loop-k l = KeptIs l.kept (keep l.expired (take l.k l.queue))

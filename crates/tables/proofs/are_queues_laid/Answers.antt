@@ -1,21 +1,12 @@
-use borrow.Author.Tests.{not-true, not-false}
-use mathlib.Core.Path.{◌≡◌, ◌∙◌, sym}
-use native.Mathlib.Omega.{arith}
-use Rattle.laws.proofs.All.{all_none, all_more, all_not}
+use Rattle.std.proofs.Common.{◌∙◌, rules, arith, refl}
+use Rattle.std.proofs.lemmas.Iterator.{YieldsList-from_range}
+use Rattle.std.proofs.lemmas.Iterator.Search.{all_from_yields_List}
+use Rattle.words.proofs.Ranges.{all_range}
+use Rattle.tables.specs.Layout.{is_queue_laid}
 use Rattle.tables.proofs.are_queues_laid.Goals as goal
-
-pub loop-i-init : goal.loop-i-init
-loop-i-init c = (omega arith, all_none _)
-
-pub returns-then-not-is_queue_laid : goal.returns-then-not-is_queue_laid
-returns-then-not-is_queue_laid c = sym (all_not _ _ c.loop-i.i (omega arith) (sym c.is_queue_laid.ensures ∙ not-true _ c.if-not-is_queue_laid.true-raw))
-
-pub loop-i-preserved : goal.loop-i-preserved
-loop-i-preserved c =
-    let turn = c.loop-i in
-    (omega arith, all_more turn.i _ turn.invariant.1 (sym c.is_queue_laid.ensures ∙ not-false _ c.if-not-is_queue_laid.false-raw))
 
 pub returns : goal.returns
 returns c =
-    let e : c.loop-i.i ≡ c.args.slots = omega arith in
-    sym (rw e at c.loop-i.invariant.1)
+    all_from_yields_List (is_queue_laid c.args.m.now) c.all.new.self _ _ c.all.ensures.ran
+    (YieldsList-from_range 0 c.args.slots c.args.slots refl (omega arith)) (λ x b q h. search rules)
+    ∙ all_range _ _

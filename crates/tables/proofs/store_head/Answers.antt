@@ -1,9 +1,6 @@
--- `tables::store_head` meets its contract.
-use native.Mathlib.Omega.{arith}
+use Rattle.std.proofs.Common.{arith}
 use Rattle.tables.proofs.LayoutStore.{head_stored}
 use Rattle.tables.proofs.store_head.Goals as goal
 
 pub returns : goal.returns
-returns c =
-    let first = c.args in
-    head_stored first.m.now _ first.i first.s (omega arith) c.set_words.ensures
+returns c = head_stored _ _ c.args.i c.args.s (omega arith) c.store.ensures

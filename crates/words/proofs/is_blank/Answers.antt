@@ -1,21 +1,15 @@
-use native.Mathlib.Omega.{arith}
+use Rattle.std.proofs.Common.{arith, refl}
 use Rattle.words.proofs.Stores.{blank_none, blank_more, blank_all}
 use Rattle.words.proofs.is_blank.Goals as goal
 
 pub loop-k-init : goal.loop-k-init
-loop-k-init c = (omega arith, omega arith, blank_none _ _)
+loop-k-init c = record { within = omega arith; seen = blank_none _ _ }
 
 pub loop-k-preserved : goal.loop-k-preserved
-loop-k-preserved c =
-    let turn = c.loop-k in
-    let joined = c.bits_of_both-seen.ensures in (
-      omega arith,
-      omega arith,
-      blank_more _ _ turn.k turn.seen _ _ turn.invariant.0 turn.invariant.2 c.swapped_word.ensures joined.0 joined.1 joined.2,
-    )
+loop-k-preserved c = record {
+  within = omega arith;
+  seen = blank_more _ _ c.loop-k.k c.loop-k.seen _ _ (omega arith) c.loop-k.invariant.seen c.raw_word-seen.ensures refl;
+}
 
 pub returns : goal.returns
-returns c =
-    let o = c.args in
-    let end = c.loop-k in
-    blank_all o.m.now o.from end.k o.to end.seen (omega arith) end.invariant.2
+returns c = blank_all _ c.args.from c.loop-k.k c.args.to c.loop-k.seen (omega arith) c.loop-k.invariant.seen

@@ -1,10 +1,7 @@
--- `words::is_blank` meets its contract. The invariant: the bits seen are 0 exactly where the words passed are.
-use Prim.Native.Nat.{◌≤◌, ◌-◌}
+-- The bits seen are 0 exactly where the words passed are.
+use Rattle.std.proofs.Common.{◌-◌, ◌≤◌}
 use Rattle.words.proofs.Stores.{Blank}
 use Rattle.words.proofs.is_blank.Given as goal
 
 abbrev pub invariant-loop-k : goal.invariant-loop-k
-invariant-loop-k l = (l.from ≤ l.k) × (l.k - l.from ≤ l.to - l.from) × Blank l.m l.from l.k l.seen
-
-abbrev pub decreases-loop-k : goal.decreases-loop-k
-decreases-loop-k l = l.to - l.k
+invariant-loop-k l = record { within : l.k - l.from ≤ l.to - l.from; seen : Blank l.m l.from l.k l.seen }

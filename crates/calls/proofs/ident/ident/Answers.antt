@@ -4,15 +4,8 @@ use Prim.Native.Nat.{ℕ}
 use Rattle.rules.specs.declared.Answer.{Answer}
 use Rattle.rules.specs.Calls.{answered}
 use Rattle.tables.specs.Layout.{model_of}
-use Rattle.calls.proofs.Agreeing.{sized}
 use Rattle.calls.proofs.Reading.{ident_answer}
 use Rattle.calls.proofs.ident.ident.Goals as goal
-
-pub search-sought-requires : goal.search-sought-requires
-search-sought-requires c = c.requires
-
-pub answer-requires : goal.answer-requires
-answer-requires c = sized c.requires
 
 pub returns : goal.returns
 returns c =
@@ -21,7 +14,7 @@ returns c =
     let d = c.search-sought.ensures in record {
       replied = record {
         answer =
-            c.answer.ensures ∙ ap₂ {C = Answer} (λ (s v : ℕ). (answered s v t).answer) d.done.status d.done.value ∙ sym (ident_answer t first.name);
+            (rw c.new.ensures at c.answer.ensures) ∙ ap₂ {C = Answer} (λ (s v : ℕ). (answered s v t).answer) d.done.status d.done.value ∙ sym (ident_answer t first.name);
         bytes = d.done.bytes;
       };
       looked = d.looked;

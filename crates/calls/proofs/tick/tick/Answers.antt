@@ -3,19 +3,18 @@ use mathlib.Core.Path.{refl}
 use mathlib.Core.List.{[]}
 use Rattle.rules.specs.declared.Call.TheVariants.{Tick}
 use Rattle.rules.specs.Calls.{perform}
-use Rattle.calls.proofs.Agreeing.{sized, agreeing_after}
-use Rattle.calls.proofs.Doing.{replied}
+use Rattle.calls.proofs.Agreeing.{sized}
+use Rattle.calls.proofs.Doing.{replied, left_tables, left_agreeing}
 use Rattle.calls.proofs.tick.tick.Goals as goal
 
-pub elapse-done-requires : goal.elapse-done-requires
-elapse-done-requires c = c.requires
-
-pub answer-requires : goal.answer-requires
+pub new-requires : goal.new-requires
 unfolding perform
-answer-requires c =
-    sized (agreeing_after c.requires Tick [] refl _ c.elapse-done.ensures.bytes)
+new-requires c = sized (left_agreeing c.requires Tick [] refl c.elapse-done.ensures)
 
 pub returns : goal.returns
 unfolding perform
-returns c =
-    replied c.requires Tick [] refl c.elapse-done.ensures c.answer.ensures
+returns c = record {
+  replied = replied c.requires Tick [] refl c.elapse-done.ensures (rw c.new.ensures at c.answer.ensures);
+  tables = left_tables c.requires Tick [] refl c.elapse-done.ensures;
+  kept = left_agreeing c.requires Tick [] refl c.elapse-done.ensures;
+}

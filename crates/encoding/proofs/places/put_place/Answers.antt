@@ -4,4 +4,4 @@ use Rattle.encoding.proofs.Laid.{place_put}
 use Rattle.encoding.proofs.places.put_place.Goals as goal
 
 pub returns : goal.returns
-returns c = λ ns ps e h. place_put ns ps c.args.i h c.args.section c.args.position c.args.places.now _ _ e (omega arith) (omega arith)
+returns c = λ ns ps e h. place_put ns ps c.args.i h c.args.place.section c.args.place.position c.args.places.now _ _ e (omega arith) (omega arith)

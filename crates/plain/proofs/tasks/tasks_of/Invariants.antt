@@ -1,13 +1,12 @@
--- `plain::tasks::tasks_of` meets its contract. The invariant: the first `i` tasks are noted, and the rows left hold the scripts left.
-use mathlib.Core.Path.{◌≡◌}
-use Prim.Native.Nat.{◌-◌, ◌/◌, ◌≤◌}
-use lib.ListN.{length}
+-- `plain::tasks::tasks_of` meets its contract. The invariant: the tasks of the scripts passed are noted, and the iterator has the scripts left.
+use Rattle.std.proofs.Common.{◌≡◌, length}
+use Rattle.encoding.specs.Rows.{scripts_of}
+use Rattle.encoding.specs.Left.{scripts_left}
 use Rattle.plain.proofs.Granting.{Noted}
 use Rattle.plain.proofs.tasks.tasks_of.Given as goal
 
-abbrev pub invariant-loop-r : goal.invariant-loop-r
-invariant-loop-r l =
-    (l.n ≡ length l.scripts / 4) × (l.i ≤ l.r) × (l.r ≤ l.n) × (length l.tasks ≡ length l.initial.tasks) × Noted l.scripts l.tasks l.i l.r
-
-abbrev pub decreases-loop-r : goal.decreases-loop-r
-decreases-loop-r l = l.n - l.r
+abbrev pub invariant-loop-i : goal.invariant-loop-i
+invariant-loop-i l =
+    (goal.iterator-loop-i).can_next l.i-iterator × (goal.iterator-loop-i).is_finite l.i-iterator
+    × (length l.tasks ≡ length l.initial.tasks)
+    × Noted (scripts_of l.scripts) (scripts_left l.i-iterator.iter) l.tasks l.i-iterator.count

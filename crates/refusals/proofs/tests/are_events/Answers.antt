@@ -1,37 +1,16 @@
-use mathlib.Core.Path.{refl}
-use native.Mathlib.Omega.{arith}
-use Prim.Native.Nat.{◌≤◌}
-use lib.ListN.{drop}
+use Rattle.std.proofs.Common.{◌∙◌, rules}
+use borrow.Author.Tests.{tests}
+use Rattle.std.proofs.lemmas.Iterator.Search.{all_from_yields_List}
+use Rattle.std.proofs.lemmas.Iterator.Consumers.{YieldsList-from_first}
+use Rattle.sections.specs.Run.Event.{NoEvent}
 use Rattle.sections.specs.Refusals.{is_event}
-use Rattle.encoding.proofs.Reading.{size_is, size_few_at, event_is, read_breaks, read_more, read_all}
+use Rattle.encoding.specs.Events.{events_of}
+use Rattle.encoding.specs.Kinds.{event_from, events_left}
+use Rattle.encoding.proofs.Every.{list_every}
+use Rattle.refusals.proofs.Testing.{some_event}
 use Rattle.refusals.proofs.tests.are_events.Goals as goal
 
-pub loop-at-init : goal.loop-at-init
-loop-at-init c = (omega arith, refl)
-
-pub returns-then-size-eq0 : goal.returns-then-size-eq0
-returns-then-size-eq0 c = read_breaks is_event c.args.events.now c.loop-at.at _ c.event_size-size.ensures c.loop-at.invariant.1 (omega arith) c.if-size-eq0.true
-
-pub overflow_add-at : goal.overflow_add-at
-overflow_add-at c = omega (
-  arith,
-  size_few_at c.args.events.now c.loop-at.at _ c.event_size-size.ensures c.loop-at.invariant.0,
-)
-
-pub loop-at-smaller : goal.loop-at-smaller
-loop-at-smaller c = omega arith
-
-pub loop-at-preserved : goal.loop-at-preserved
-loop-at-preserved c =
-    let ns = c.args.events.now in
-    let turn = c.loop-at in
-    let size = c.event_size-size in
-    let some : 1 ≤ size.result = omega arith in
-    let whole = size_is ns turn.at size.result size.ensures in (
-      size_few_at ns turn.at size.result size.ensures turn.invariant.0,
-      read_more is_event ns turn.at size.result size.ensures turn.invariant.1
-          some (event_is (drop turn.at ns) (omega (arith, whole))),
-    )
-
 pub returns : goal.returns
-returns c = read_all is_event c.args.events.now c.loop-at.at (omega arith) c.loop-at.invariant.1
+returns c =
+    all_from_yields_List is_event c.all.new.self _ _ c.all.ensures.ran (YieldsList-from_first event_from events_left _ c.new.ensures) (λ x b q k. search (rules, tests, some_event))
+    ∙ list_every is_event NoEvent (events_of c.args.events.now)

@@ -1,13 +1,10 @@
-use mathlib.Core.Path.{◌≡◌}
-use Prim.Native.Nat.{◌-◌, ◌/◌, ◌≤◌}
-use lib.ListN.{length}
-use mathlib.Core.Bool.{true}
-use Rattle.laws.specs.All.{all}
-use Rattle.encoding.specs.Rows.{row_fits}
+-- The rows left are the rest of the test.
+use Rattle.std.proofs.Common.{◌≡◌, None}
+use Rattle.encoding.specs.Rows.{rows_of, all_follow}
+use Rattle.encoding.specs.Left.{rows_left}
 use Rattle.refusals.proofs.tests.are_rows_fit.Given as goal
 
-abbrev pub invariant-loop-r : goal.invariant-loop-r
-invariant-loop-r l = (l.n ≡ length l.scripts / 4) × (l.r ≤ l.n) × (all l.r (row_fits l.scripts) ≡ true)
-
-abbrev pub decreases-loop-r : goal.decreases-loop-r
-decreases-loop-r l = l.n - l.r
+abbrev pub invariant-loop-row : goal.invariant-loop-row
+invariant-loop-row l =
+    (goal.iterator-loop-row).can_next l.row-iterator × (goal.iterator-loop-row).is_finite l.row-iterator
+    × (all_follow l.last (rows_left l.row-iterator) ≡ all_follow None (rows_of l.scripts))

@@ -1,34 +1,17 @@
-use mathlib.Core.Path.{refl, sym, ◌∙◌}
-use native.Mathlib.Omega.{arith}
-use borrow.Author.Tests.{not-true, not-false}
-use Rattle.tables.specs.Layout.{model_of}
+use Rattle.std.proofs.Common.{[], ◌∙◌, rules}
+use borrow.Author.Tests.{tests}
+use Rattle.std.proofs.lemmas.Iterator.Search.{all_from_yields_List}
+use Rattle.std.proofs.lemmas.Iterator.Consumers.{YieldsList-from_first}
+use Rattle.tables.specs.View.{seen}
+use Rattle.sections.specs.Scripts.{Script}
 use Rattle.sections.specs.Refusals.{is_ready}
-use Rattle.refusals.proofs.Testing.{scans_scripts, scan_fails, scan_more, scan_all}
+use Rattle.encoding.specs.Rows.{scripts_of}
+use Rattle.encoding.specs.Left.{script_from, scripts_left}
+use Rattle.encoding.proofs.Every.{list_every}
 use Rattle.refusals.proofs.tests.are_scripts_ready.Goals as goal
-
-pub loop-r-init : goal.loop-r-init
-loop-r-init c = (c.row_count-n.ensures, refl)
-
-pub is_script_ready-requires : goal.is_script_ready-requires
-is_script_ready-requires c = (c.requires, omega arith)
-
-pub returns-then-not-is_script_ready : goal.returns-then-not-is_script_ready
-returns-then-not-is_script_ready c =
-    let o = c.args in
-    let turn = c.loop-r in
-    scan_fails _ _ (scans_scripts (λ s. is_ready (model_of o.m.now) s.task)) o.scripts.now turn.r turn.invariant.1 (omega arith) (sym c.is_script_ready.ensures ∙ not-true _ c.if-not-is_script_ready.true-raw)
-
-pub loop-r-preserved : goal.loop-r-preserved
-loop-r-preserved c =
-    let o = c.args in
-    let turn = c.loop-r in (
-      turn.invariant.0,
-      scan_more _ _ (scans_scripts (λ s. is_ready (model_of o.m.now) s.task)) o.scripts.now turn.r turn.invariant.1 (omega arith) (sym
-          c.is_script_ready.ensures ∙ not-false _ c.if-not-is_script_ready.false-raw),
-    )
 
 pub returns : goal.returns
 returns c =
-    let o = c.args in
-    let turn = c.loop-r in
-    scan_all _ _ (scans_scripts (λ s. is_ready (model_of o.m.now) s.task)) o.scripts.now turn.r turn.invariant.1 (omega arith)
+    let test = λ (s : Script). is_ready (seen c.args.v) s.task in
+    all_from_yields_List test c.all.new.self _ _ c.all.ensures.ran (YieldsList-from_first script_from scripts_left _ c.new.ensures) (λ x b q k. search (rules, tests))
+    ∙ list_every test (record { task = 0; sections = [] }) (scripts_of c.args.scripts.now)

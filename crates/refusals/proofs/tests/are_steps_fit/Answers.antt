@@ -1,49 +1,25 @@
-use mathlib.Core.Path.{◌≡◌, sym, ap, ◌∙◌}
-use native.Mathlib.Omega.{arith}
-use Prim.Native.Nat.{ℕ}
-use lib.ListN.{length, get_or, drop}
-use borrow.Author.Tests.{not-true, not-false}
-use Rattle.laws.specs.All.{all}
-use Rattle.laws.proofs.All.{all_none, all_more, all_not}
+use Rattle.std.proofs.Common.{refl, ◌∙◌, rules}
+use borrow.Author.Tests.{tests}
+use Rattle.std.proofs.lemmas.Iterator.Search.{all_from_yields_List}
+use Rattle.std.proofs.lemmas.Iterator.Consumers.{YieldsList-from_first}
 use Rattle.sections.specs.Scripts.Step.{NoStep}
 use Rattle.sections.specs.Refusals.{is_step}
-use Rattle.encoding.specs.Rows.{rows_of, step_of, steps_from}
-use Rattle.refusals.proofs.Testing.{steps_row}
+use Rattle.encoding.specs.Rows.{step_of}
+use Rattle.encoding.specs.Left.{section_from, steps_left}
+use Rattle.encoding.proofs.Every.{both, first, list_every}
+use Rattle.refusals.specs.Tests.{are_steps}
+use Rattle.refusals.proofs.Testing.{no_more}
 use Rattle.refusals.proofs.tests.are_steps_fit.Goals as goal
 
-pub loop-k-init : goal.loop-k-init
-loop-k-init c = (c.step_count-n.ensures, omega arith, all_none _)
+pub returns-then-is_none : goal.returns-then-is_none
+returns-then-is_none c =
+    let s = c.args.section in
+    let test = is_step c.args.ids.now s.id in
+    both _ _ _ _ (no_more step_of c.step.result (steps_left s.steps) 16 c.step.ensures _ c.is_none.ensures) c.if-is_none.true
+    (all_from_yields_List test c.all.new.self _ _ c.all.ensures.ran (YieldsList-from_first step_of steps_left _ refl) (λ x b q k. search (rules, tests))
+    ∙ list_every test NoStep (steps_left s.steps))
 
-pub overflow_add-from : goal.overflow_add-from
-overflow_add-from c = omega (
-  arith,
-  (steps_row c.args.scripts.now c.args.from
-      c.loop-k.k (omega arith)).0,
-)
-
-pub row_at-requires : goal.row_at-requires
-row_at-requires c = (steps_row c.args.scripts.now c.args.from c.loop-k.k (omega arith)).0
-
-pub returns-then-not-is_step_fit : goal.returns-then-not-is_step_fit
-returns-then-not-is_step_fit c =
-    let o = c.args in
-    let turn = c.loop-k in
-    let row = steps_row o.scripts.now o.from turn.k (omega arith) in
-    let test = ap (is_step o.ids.now o.id) (row.1 ∙ ap step_of (sym c.row_at.ensures)) in
-    sym (all_not (length (steps_from (drop o.from (rows_of o.scripts.now)))) _ turn.k (omega arith) (test ∙ sym c.is_step_fit.ensures ∙
-    not-true _ c.if-not-is_step_fit.true-raw))
-
-pub loop-k-preserved : goal.loop-k-preserved
-loop-k-preserved c =
-    let o = c.args in
-    let turn = c.loop-k in
-    let row = steps_row o.scripts.now o.from turn.k (omega arith) in
-    let test = ap (is_step o.ids.now o.id) (row.1 ∙ ap step_of (sym c.row_at.ensures)) in
-    (turn.invariant.0, omega arith, all_more turn.k _ turn.invariant.2 (test ∙ sym c.is_step_fit.ensures ∙ not-false _ c.if-not-is_step_fit.false-raw))
-
-pub returns : goal.returns
-returns c =
-    let o = c.args in
-    let turn = c.loop-k in
-    let e : turn.k ≡ length (steps_from (drop o.from (rows_of o.scripts.now))) = omega arith in
-    sym (ap (λ (n : ℕ). all n (λ k. is_step o.ids.now o.id (get_or (steps_from (drop o.from (rows_of o.scripts.now))) k NoStep))) (sym e) ∙ turn.invariant.2)
+pub returns-else-is_none : goal.returns-else-is_none
+returns-else-is_none c =
+    let s = c.args.section in
+    first _ (are_steps c.args.ids.now (section_from s)) _ (no_more step_of c.step.result (steps_left s.steps) 16 c.step.ensures _ c.is_none.ensures) c.if-is_none.false

@@ -1,25 +1,26 @@
-use mathlib.Core.Bool.{false}
-use mathlib.Core.Path.{sym, ◌∙◌}
-use native.Mathlib.Omega.{arith}
-use borrow.Author.Tests.{not-true, not-false}
-use Rattle.laws.proofs.Choose.{if_yes, if_no}
+use Rattle.std.proofs.Common.{eqb, sym, refl, ap, ◌∙◌, arith}
+use Rattle.rules.specs.Numbers.{is_binary}
+use Rattle.tables.specs.declared.Head.{Head}
+use Rattle.encoding.proofs.Every.{both, first}
 use Rattle.refusals.proofs.Guards.{guard_none, slot_within, guard_slot}
 use Rattle.refusals.proofs.tests.is_guard.Goals as goal
 
-pub returns-then-n-eq0 : goal.returns-then-n-eq0
-returns-then-n-eq0 c = guard_none c.args.m.now c.args.id _ c.slot_named-n.ensures c.if-n-eq0.true
+pub returns-in_default : goal.returns-in_default
+returns-in_default c = guard_none c.args.v.bytes.now c.args.id 0 (sym c.in_default.ensures) refl
 
-pub load_slot-s-requires : goal.load_slot-s-requires
-load_slot-s-requires c =
-    let slot = slot_within c.args.m.now c.args.id _ c.slot_named-n.ensures c.if-n-eq0.false in
-    (c.requires.long, omega (arith, slot.0, slot.1, c.requires.slots))
+pub head-s-requires : goal.head-s-requires
+head-s-requires c =
+    let slot = slot_within c.args.v.bytes.now c.args.id _ c.in-Some.ensures.0 (λ z. omega (arith, c.in-Some.ensures.1)) in
+    omega (arith, slot.0, slot.1, c.args.v.sized.slots)
 
-pub returns-then-not-is_binary : goal.returns-then-not-is_binary
-returns-then-not-is_binary c =
-    let o = c.args in
-    sym (guard_slot o.m.now o.id _ c.slot_named-n.ensures c.if-n-eq0.false _ c.load_slot-s.ensures ∙ if_no _ false (sym c.is_binary.ensures ∙ not-true _ c.if-not-is_binary.true-raw))
+pub returns-then-is_binary : goal.returns-then-is_binary
+returns-then-is_binary c =
+    let guard = guard_slot c.args.v.bytes.now c.args.id _ c.in-Some.ensures.0 (λ z. omega (arith, c.in-Some.ensures.1)) _ refl in
+    both _ _ _ _ (c.is_binary.ensures ∙ ap (λ (h : Head). is_binary h.attributes) c.head-s.ensures) c.if-is_binary.true
+    (ap (λ (h : Head). eqb h.owner 0) c.head-s.ensures)
+    ∙ sym guard
 
-pub returns : goal.returns
-returns c =
-    let o = c.args in
-    sym (guard_slot o.m.now o.id _ c.slot_named-n.ensures c.if-n-eq0.false _ c.load_slot-s.ensures ∙ if_yes _ false (sym c.is_binary.ensures ∙ not-false _ c.if-not-is_binary.false-raw))
+pub returns-else-is_binary : goal.returns-else-is_binary
+returns-else-is_binary c =
+    let guard = guard_slot c.args.v.bytes.now c.args.id _ c.in-Some.ensures.0 (λ z. omega (arith, c.in-Some.ensures.1)) _ refl in
+    first _ _ _ (c.is_binary.ensures ∙ ap (λ (h : Head). is_binary h.attributes) c.head-s.ensures) c.if-is_binary.false ∙ sym guard

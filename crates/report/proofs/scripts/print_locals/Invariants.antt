@@ -1,12 +1,8 @@
 -- `report::scripts::print_locals` meets its contract. The invariant: the lines of the first `i` tasks are written.
-use Prim.Native.Nat.{◌≤◌, ◌-◌}
 use Rattle.laws.specs.Rows.{tabulate, rows}
 use Rattle.report.specs.Report.{Written}
 use Rattle.report.proofs.Printing.{locals_at}
 use Rattle.report.proofs.scripts.print_locals.Given as goal
 
 abbrev pub invariant-loop-i : goal.invariant-loop-i
-invariant-loop-i l = (l.i ≤ l.count) × Written l.at (rows (tabulate l.i (locals_at l.word l.locals))) l.initial.out l.out l.end
-
-abbrev pub decreases-loop-i : goal.decreases-loop-i
-decreases-loop-i l = l.count - l.i
+invariant-loop-i l = Written l.at (rows (tabulate l.i (locals_at l.word l.locals))) l.initial.out l.out l.end

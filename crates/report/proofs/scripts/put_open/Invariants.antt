@@ -1,13 +1,8 @@
 -- `report::scripts::put_open` meets its contract. The invariant: what is open of the first `i` scripts is written.
-use Prim.Native.Nat.{◌≤◌, ◌-◌}
-use lib.ListN.{length}
 use Rattle.laws.specs.Rows.{tabulate, rows}
 use Rattle.report.specs.Report.{Written}
 use Rattle.report.proofs.Printing.{open_at}
 use Rattle.report.proofs.scripts.put_open.Given as goal
 
 abbrev pub invariant-loop-i : goal.invariant-loop-i
-invariant-loop-i l = (l.i ≤ length l.tasks) × Written l.at (rows (tabulate l.i (open_at l.tasks l.places))) l.initial.out l.out l.end
-
-abbrev pub decreases-loop-i : goal.decreases-loop-i
-decreases-loop-i l = length l.tasks - l.i
+invariant-loop-i l = Written l.at (rows (tabulate l.i (open_at l.tasks l.places))) l.initial.out l.out l.end

@@ -20,7 +20,7 @@ returns c =
     let obtainer = c.obtainer_of-obtainer in
     let done = c.perform-answer in record {
       noted = call_noted o.scripts.now o.m.now o.places.now o.grants.now c.requires.0 (λ i h. (c.requires.1.tasks i h).1) o.call o.priorities.now
-          (call_held o.call _ c.well_formed.1.1.0) waited.result waited.ensures obtainer.result obtainer.ensures done.result _ done.ensures.replied _ _
+          (call_held o.call _ c.well_formed.1.1.0) waited.result waited.ensures _ obtainer.ensures done.result _ done.ensures.replied _ _
           c.settle.ensures;
       kept = done.ensures.kept;
     }

@@ -6,8 +6,7 @@ use Rattle.shown.proofs.semaphores.put_class.Goals as goal
 
 pub returns-then-is_binary : goal.returns-then-is_binary
 unfolding class_text
-returns-then-is_binary c =
-    puts_yes _ (sym c.is_binary.ensures ∙ c.if-is_binary.true) c.put.ensures
+returns-then-is_binary c = puts_yes _ (sym c.is_binary.ensures ∙ c.if-is_binary.true) c.put.ensures
 
 pub returns-then-is_simple : goal.returns-then-is_simple
 unfolding class_text
@@ -15,8 +14,8 @@ returns-then-is_simple c =
     puts_no _ (sym c.is_binary.ensures ∙ c.if-is_binary.false)
     (puts_yes _ (sym c.is_simple.ensures ∙ c.if-is_simple.true) c.put-then-is_simple.ensures)
 
-pub returns : goal.returns
+pub returns-else-is_simple : goal.returns-else-is_simple
 unfolding class_text
-returns c =
+returns-else-is_simple c =
     puts_no _ (sym c.is_binary.ensures ∙ c.if-is_binary.false)
-    (puts_no _ (sym c.is_simple.ensures ∙ c.if-is_simple.false) c.put-2.ensures)
+    (puts_no _ (sym c.is_simple.ensures ∙ c.if-is_simple.false) c.put-else-is_simple.ensures)

@@ -6,7 +6,5 @@ use Rattle.shown.proofs.semaphores.put_kind.Goals as goal
 pub returns : goal.returns
 unfolding kind_text
 returns c =
-    c.put_numbered-name_at.ensures then c.put_numbered-class_at.ensures then c.put_class-order_at.ensures
-    then c.put_order-count_at.ensures
-    then c.put_number-maximum_at.ensures
+    c.put_numbered.ensures then c.put_numbered-2.ensures then c.put_class.ensures then c.put_order.ensures then c.put_number.ensures
     then c.put_maximum.ensures

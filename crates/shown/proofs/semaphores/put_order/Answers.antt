@@ -15,8 +15,8 @@ returns-then-is_by_priority c =
     puts_no _ (ne_eqb _ _ c.if-attributes-eq-INHERITANCE.false)
     (puts_yes _ (sym c.is_by_priority.ensures ∙ c.if-is_by_priority.true) c.put-then-is_by_priority.ensures)
 
-pub returns : goal.returns
+pub returns-else-is_by_priority : goal.returns-else-is_by_priority
 unfolding order_text
-returns c =
+returns-else-is_by_priority c =
     puts_no _ (ne_eqb _ _ c.if-attributes-eq-INHERITANCE.false)
-    (puts_no _ (sym c.is_by_priority.ensures ∙ c.if-is_by_priority.false) c.put-2.ensures)
+    (puts_no _ (sym c.is_by_priority.ensures ∙ c.if-is_by_priority.false) c.put-else-is_by_priority.ensures)

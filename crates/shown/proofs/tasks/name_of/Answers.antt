@@ -4,12 +4,8 @@ use native.Mathlib.Omega.{arith}
 use Rattle.shown.proofs.Reading.{name_none, name_read}
 use Rattle.shown.proofs.tasks.name_of.Goals as goal
 
-pub returns-then-s-i : goal.returns-then-s-i
-returns-then-s-i c =
-    let first = c.args in
-    name_none first.m.now first.n c.index_of-i.result c.index_of-i.ensures (omega arith)
+pub returns-then-slot_count-i : goal.returns-then-slot_count-i
+returns-then-slot_count-i c = name_none c.args.v.bytes.now c.args.n c.index_of-i.result c.index_of-i.ensures (omega arith)
 
 pub returns : goal.returns
-returns c =
-    let first = c.args in
-    c.slot_name.ensures ∙ name_read first.m.now first.n c.index_of-i.result c.index_of-i.ensures (omega arith)
+returns c = c.slot_name.ensures ∙ name_read c.args.v.bytes.now c.args.n c.index_of-i.result c.index_of-i.ensures (omega arith)

@@ -11,16 +11,18 @@ returns-then-answer-eq-TIMEOUT c = puts_yes _ (eq-eqb _ _ c.if-answer-eq-TIMEOUT
 pub returns-then-answer-eq-OBJECT_WAS_DELETED : goal.returns-then-answer-eq-OBJECT_WAS_DELETED
 unfolding ending_text
 returns-then-answer-eq-OBJECT_WAS_DELETED c =
-    puts_no _ (ne_eqb _ _ c.if-answer-eq-TIMEOUT.false) (puts_yes _ (eq-eqb _ _ c.if-answer-eq-OBJECT_WAS_DELETED.true) c.put-then-answer-eq-OBJECT_WAS_DELETED.ensures)
+    puts_no _ (ne_eqb _ _ c.if-answer-eq-TIMEOUT.false)
+    (puts_yes _ (eq-eqb _ _ c.if-answer-eq-OBJECT_WAS_DELETED.true) c.put-then-answer-eq-OBJECT_WAS_DELETED.ensures)
 
 pub returns-then-answer-eq-UNSATISFIED : goal.returns-then-answer-eq-UNSATISFIED
 unfolding ending_text
 returns-then-answer-eq-UNSATISFIED c =
-    puts_no _ (ne_eqb _ _ c.if-answer-eq-TIMEOUT.false) (puts_no _ (ne_eqb _ _ c.if-answer-eq-OBJECT_WAS_DELETED.false) (puts_yes _ (eq-eqb _ _ c.if-answer-eq-UNSATISFIED.true)
-    c.put-then-answer-eq-UNSATISFIED.ensures))
+    puts_no _ (ne_eqb _ _ c.if-answer-eq-TIMEOUT.false)
+    (puts_no _ (ne_eqb _ _ c.if-answer-eq-OBJECT_WAS_DELETED.false)
+    (puts_yes _ (eq-eqb _ _ c.if-answer-eq-UNSATISFIED.true) c.put-then-answer-eq-UNSATISFIED.ensures))
 
-pub returns : goal.returns
+pub returns-else-answer-eq-UNSATISFIED : goal.returns-else-answer-eq-UNSATISFIED
 unfolding ending_text
-returns c =
-    puts_no _ (ne_eqb _ _ c.if-answer-eq-TIMEOUT.false) (puts_no _ (ne_eqb _ _ c.if-answer-eq-OBJECT_WAS_DELETED.false) (puts_no _ (ne_eqb _ _ c.if-answer-eq-UNSATISFIED.false)
-    puts_none))
+returns-else-answer-eq-UNSATISFIED c =
+    puts_no _ (ne_eqb _ _ c.if-answer-eq-TIMEOUT.false)
+    (puts_no _ (ne_eqb _ _ c.if-answer-eq-OBJECT_WAS_DELETED.false) (puts_no _ (ne_eqb _ _ c.if-answer-eq-UNSATISFIED.false) puts_none))

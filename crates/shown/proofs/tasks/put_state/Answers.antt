@@ -4,11 +4,10 @@ use Rattle.shown.specs.Shown.{state_text}
 use Rattle.shown.proofs.Putting.{◌then◌, puts_yes, puts_no}
 use Rattle.shown.proofs.tasks.put_state.Goals as goal
 
-pub returns-then-v-eq-WAITING : goal.returns-then-v-eq-WAITING
+pub returns-then-task-eq-WAITING : goal.returns-then-task-eq-WAITING
 unfolding state_text
-returns-then-v-eq-WAITING c = puts_yes _ (eq-eqb _ _ c.if-v-eq-WAITING.true) c.put_wait.ensures
+returns-then-task-eq-WAITING c = puts_yes _ (eq-eqb _ _ c.if-task-eq-WAITING.true) c.put_wait.ensures
 
-pub returns : goal.returns
+pub returns-else-task-eq-WAITING : goal.returns-else-task-eq-WAITING
 unfolding state_text
-returns c =
-    puts_no _ (ne_eqb _ _ c.if-v-eq-WAITING.false) (c.put-ending_at.ensures then c.put_ending.ensures)
+returns-else-task-eq-WAITING c = puts_no _ (ne_eqb _ _ c.if-task-eq-WAITING.false) (c.put.ensures then c.put_ending.ensures)

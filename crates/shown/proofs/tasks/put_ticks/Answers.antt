@@ -8,7 +8,6 @@ pub returns-then-ticks-eq0 : goal.returns-then-ticks-eq0
 unfolding ticks_text
 returns-then-ticks-eq0 c = puts_yes _ (eq-eqb _ _ c.if-ticks-eq0.true) c.put.ensures
 
-pub returns : goal.returns
+pub returns-else-ticks-eq0 : goal.returns-else-ticks-eq0
 unfolding ticks_text
-returns c =
-    puts_no _ (ne_eqb _ _ c.if-ticks-eq0.false) (c.put_number-end.ensures then c.put-2.ensures)
+returns-else-ticks-eq0 c = puts_no _ (ne_eqb _ _ c.if-ticks-eq0.false) (c.put_number.ensures then c.put-else-ticks-eq0.ensures)

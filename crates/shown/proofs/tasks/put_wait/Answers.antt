@@ -7,7 +7,7 @@ use Rattle.shown.proofs.tasks.put_wait.Goals as goal
 pub returns : goal.returns
 unfolding wait_text
 returns c =
-    puts_as (ap (numbered waits_phrase) c.name_of-name.ensures) c.put_numbered-id_at.ensures
-    then c.put_numbered-close_at.ensures
-    then c.put-ticks_at.ensures
+    puts_as (ap (numbered waits_phrase) c.name_of-name.ensures) c.put_numbered.ensures
+    then c.put_numbered-2.ensures
+    then c.put.ensures
     then c.put_ticks.ensures

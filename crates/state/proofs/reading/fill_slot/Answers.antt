@@ -5,5 +5,5 @@ use Rattle.state.proofs.reading.fill_slot.Goals as goal
 pub returns : goal.returns
 returns c =
     let first = c.args in
-    slot_filled first.m.now _ _ first.i first.file.now first.edition first.at first.queue first.n _ c.head_in-s.ensures
+    slot_filled first.m.now _ _ first.i first.file.now first.edition first.at first.queue first.n _ c.head_in.ensures
     c.store_head.ensures c.fill_queue.ensures

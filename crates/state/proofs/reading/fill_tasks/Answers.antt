@@ -4,18 +4,14 @@ use Rattle.state.proofs.reading.fill_tasks.Goals as goal
 
 pub loop-i-init : goal.loop-i-init
 loop-i-init c =
-    let first = c.args in (omega arith, omega arith, tasks_none first.m.now first.file.now first.tasks)
+    let first = c.args in tasks_none first.m.now first.file.now first.tasks
 
 pub loop-i-preserved : goal.loop-i-preserved
 loop-i-preserved c =
-    let first = c.args in (
-      omega arith,
-      omega (arith, c.store_task.auto),
-      tasks_more first.m.now first.file.now first.tasks c.loop-i.m _ c.loop-i.i _ (omega arith) (omega arith)
-          c.task_in-v.ensures c.store_task.ensures c.loop-i.invariant.2,
-    )
+    let first = c.args in
+    tasks_more first.m.now first.file.now first.tasks c.loop-i.m _ c.loop-i.i _ (omega arith) (omega arith) c.load.ensures c.store_task.ensures c.loop-i.invariant
 
 pub returns : goal.returns
 returns c =
     let first = c.args in
-    tasks_all first.m.now first.file.now first.tasks c.loop-i.m c.loop-i.i (omega arith) c.loop-i.invariant.2
+    tasks_all first.m.now first.file.now first.tasks c.loop-i.m c.loop-i.i (omega arith) c.loop-i.invariant

@@ -1,37 +1,50 @@
 -- `state::reading::take_in` meets its contract: each return is a case of the whole test.
-use mathlib.Core.Path.{refl, sym, ap, ◌∙◌}
+use Rattle.std.proofs.Common.{◌≡◌, ◌∙◌, ap, arith, length, sym}
 use borrow.Author.Tests.{not-true, not-false}
-use Rattle.laws.proofs.Choose.{never}
 use Rattle.words.proofs.WordsInBytes.{Bytes}
 use Rattle.tables.proofs.LayoutRead.{length_laid}
 use Rattle.rules.specs.Machine.{unstarted}
-use lib.ListN.{length}
-use Rattle.state.proofs.Taken.{other_contents, other_queues, filled_agree}
+use Rattle.rules.specs.Status.{status}
+use Rattle.std.proofs.lemmas.Result.{err_from_is_err_and}
+use Rattle.rules.proofs.Refused.{refused}
+use Rattle.state.proofs.Refused.{invalid, valid, is_valid}
+use Rattle.state.proofs.Taken.{other_contents, queues_refused, filled_agree}
 use Rattle.state.proofs.reading.take_in.Goals as goal
 
 pub returns-then-not-is_headed : goal.returns-then-not-is_headed
 returns-then-not-is_headed c =
     let start = c.args in
     let b : Bytes start.file.now = λ k. (c.type_inv.file k).fits in
-    (sym (other_contents start.file.now b (sym c.is_headed.ensures ∙ not-true _ c.if-not-is_headed.true-raw)), λ e. never e refl)
+    (invalid _ (other_contents start.file.now b (sym c.is_headed.ensures ∙ not-true _ c.if-not-is_headed.true-raw)), λ e. absurd (omega arith))
 
 pub fill-requires : goal.fill-requires
-fill-requires c =
-    let start = c.args in
-    (ap length c.requires ∙ length_laid unstarted, sym c.is_headed.ensures ∙ not-false _ c.if-not-is_headed.false-raw)
+fill-requires c = (ap length c.requires ∙ length_laid unstarted, sym c.is_headed.ensures ∙ not-false _ c.if-not-is_headed.false-raw)
 
-pub returns-then-not-fill : goal.returns-then-not-fill
-returns-then-not-fill c =
+pub returns-in_err-fill : goal.returns-in_err-fill
+returns-in_err-fill c =
     let start = c.args in
     let b : Bytes start.file.now = λ k. (c.type_inv.file k).fits in
     let headed = sym c.is_headed.ensures ∙ not-false _ c.if-not-is_headed.false-raw in
-    (sym (other_queues start.file.now b headed (sym c.fill.ensures.0 ∙ not-true _ c.if-not-fill.true-raw)), λ e. never e refl)
+    let p = err_from_is_err_and c.from_residual.result c.from_residual.ensures.1 in
+    let some = refused c.in_err-fill.field-0.0 in
+    rw (p.1, p.2) (queues_refused start.file.now b headed _ c.in_err-fill.ensures.0 some, λ z. absurd (omega (arith, some, z)))
 
-pub returns : goal.returns
-returns c =
+pub returns-then-is_agreeing : goal.returns-then-is_agreeing
+returns-then-is_agreeing c =
     let start = c.args in
     let b : Bytes start.file.now = λ k. (c.type_inv.file k).fits in
     let headed = sym c.is_headed.ensures ∙ not-false _ c.if-not-is_headed.false-raw in
-    let yes = not-false _ c.if-not-fill.false-raw in
-    let laid = c.fill.ensures.1 c.requires yes in
-    (c.is_agreeing.ensures ∙ filled_agree start.file.now b headed (sym c.fill.ensures.0 ∙ yes) _ laid, λ e. laid)
+    let done : status c.fill.result ≡ 0 = ap status c.in_ok-fill.was in
+    let laid = c.fill.ensures.1 c.requires done in
+    let agree = c.is_agreeing.ensures ∙ filled_agree start.file.now b headed (is_valid _ (sym c.fill.ensures.0 ∙ done)) _ laid in
+    (valid _ (sym agree ∙ c.if-is_agreeing.true), λ e. laid)
+
+pub returns-else-is_agreeing : goal.returns-else-is_agreeing
+returns-else-is_agreeing c =
+    let start = c.args in
+    let b : Bytes start.file.now = λ k. (c.type_inv.file k).fits in
+    let headed = sym c.is_headed.ensures ∙ not-false _ c.if-not-is_headed.false-raw in
+    let done : status c.fill.result ≡ 0 = ap status c.in_ok-fill.was in
+    let laid = c.fill.ensures.1 c.requires done in
+    let agree = c.is_agreeing.ensures ∙ filled_agree start.file.now b headed (is_valid _ (sym c.fill.ensures.0 ∙ done)) _ laid in
+    (invalid _ (sym agree ∙ c.if-is_agreeing.false), λ e. absurd (omega arith))

@@ -12,33 +12,30 @@ use Rattle.state.proofs.writing.write_queues.Goals as goal
 pub loop-i-init : goal.loop-i-init
 loop-i-init c =
     let first = c.args in
-    (omega arith, omega arith, rows_none queue_row (model_of first.m.now).slots (free_slot 0) first.at first.file.now _ refl)
+    rows_none queue_row (model_of first.v.bytes.now).slots (free_slot 0) first.at first.file.now _ refl
 
 pub write_queue-end-requires : goal.write_queue-end-requires
 write_queue-end-requires c =
     let first = c.args in
-    let m = c.args.m.now in
+    let m = c.args.v.bytes.now in
     let h : c.loop-i.i < length (model_of m).slots = omega (arith, length_slots m, c.slot_count-slots.ensures) in
     let room =
     row_within queue_row (model_of m).slots (free_slot 0) first.at first.file.now c.loop-i.file c.loop-i.i c.loop-i.end h
-    c.loop-i.invariant.2
+    c.loop-i.invariant
     in
     (c.requires.0, h, omega arith)
 
 pub loop-i-preserved : goal.loop-i-preserved
 loop-i-preserved c =
     let first = c.args in
-    let m = c.args.m.now in (
-      omega arith,
-      omega (arith, c.write_queue-end.auto),
-      rows_more queue_row (model_of m).slots (free_slot 0) first.at first.file.now c.loop-i.file c.loop-i.i c.loop-i.end
-          (omega (arith, length_slots m, c.slot_count-slots.ensures)) c.loop-i.invariant.2 _ _ _ refl
-          c.write_queue-end.ensures.1 c.write_queue-end.ensures.0,
-    )
+    let m = c.args.v.bytes.now in
+    rows_more queue_row (model_of m).slots (free_slot 0) first.at first.file.now c.loop-i.file c.loop-i.i c.loop-i.end
+    (omega (arith, length_slots m, c.slot_count-slots.ensures)) c.loop-i.invariant _ _ _ refl
+    c.write_queue-end.ensures.1 c.write_queue-end.ensures.0
 
 pub returns : goal.returns
 returns c =
     let first = c.args in
-    let m = c.args.m.now in
+    let m = c.args.v.bytes.now in
     rows_all queue_row (model_of m).slots (free_slot 0) first.at first.file.now _ c.loop-i.i c.loop-i.end
-    (omega (arith, length_slots m, c.slot_count-slots.ensures)) c.loop-i.invariant.2
+    (omega (arith, length_slots m, c.slot_count-slots.ensures)) c.loop-i.invariant

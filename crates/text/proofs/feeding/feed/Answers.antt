@@ -1,34 +1,27 @@
 use native.Mathlib.Omega.{arith}
+use Rattle.std.proofs.lemmas.Result.{err_from_is_err_and}
 use Rattle.text.specs.Feeding.{lent}
 use Rattle.text.proofs.Bytes.{underway_none, underway_more, underway_fault, underway_over}
 use Rattle.text.proofs.feeding.feed.Goals as goal
 
-pub loop-i-init : goal.loop-i-init
-loop-i-init c =
+pub loop-b-init : goal.loop-b-init
+loop-b-init c =
     let o = c.args in
     underway_none o.p o.line.now (lent o.m.now o.ids.now o.cells.now o.locals.now o.scripts.now o.events.now)
     o.input.now c.requires
 
-pub take_byte-fed-requires : goal.take_byte-fed-requires
-take_byte-fed-requires c = c.loop-i.invariant.ready
+pub returns-in_err-kept : goal.returns-in_err-kept
+returns-in_err-kept c =
+    let p = err_from_is_err_and c.from_residual.result c.from_residual.ensures.1 in
+    rw (p.1, p.2)
+    (underway_fault c.loop-b.invariant
+    c.loop-b-test.true _ _ _ c.take_byte.ensures _ c.in_err-kept.was)
 
-pub returns-in-Faults : goal.returns-in-Faults
-returns-in-Faults c =
-    underway_fault c.loop-i.invariant
-    c.loop-i-test.true _ _ _ c.take_byte-fed.ensures _ _ c.in-Faults.is
-
-pub overflow_add-i : goal.overflow_add-i
-overflow_add-i c = omega (
-  arith,
-  c.loop-i-test.true,
-  c.well_formed.1.1.1.1.1.1.1.1.0.0,
-)
-
-pub loop-i-preserved : goal.loop-i-preserved
-loop-i-preserved c =
-    let took = c.take_byte-fed in
-    underway_more c.loop-i.invariant
-    c.loop-i-test.true _ _ _ took.ensures _ c.in-Keeps.is
+pub loop-b-preserved : goal.loop-b-preserved
+loop-b-preserved c =
+    let took = c.take_byte in
+    underway_more c.loop-b.invariant
+    c.loop-b-test.true _ _ _ took.ensures _ c.in_ok-kept.was
     (record {
       bytes = took.auto.m;
       ids = took.auto.ids;
@@ -39,4 +32,4 @@ loop-i-preserved c =
     })
 
 pub returns : goal.returns
-returns c = underway_over c.loop-i.invariant (omega arith)
+returns c = underway_over c.loop-b.invariant (omega arith)

@@ -1,4 +1,4 @@
--- `text::feeding::finish` meets its contract: a line that has begun ends with the text.
+-- A line that has begun ends with the text.
 use mathlib.Core.Path.{sym}
 use Rattle.text.specs.Feeding.{Lent, lent, room_of, kept_of}
 use Rattle.text.proofs.Bytes.{feeds_as, end_none, end_some}

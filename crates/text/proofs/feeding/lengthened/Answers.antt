@@ -1,14 +1,14 @@
--- `text::feeding::lengthened` meets its contract: the byte is stored behind the others, or the line is more than 256 bytes long.
+-- The byte is stored behind the others, or the line is more than 256 bytes long.
 use mathlib.Core.Path.{sym}
 use native.Mathlib.Omega.{arith}
 use Rattle.laws.proofs.Choose.{if_lt, if_not_lt}
 use Rattle.text.specs.Feeding.{lengthen}
 use Rattle.text.proofs.feeding.lengthened.Goals as goal
 
-pub returns-then-begun-lt257 : goal.returns-then-begun-lt257
+pub returns-then-begun-ge257 : goal.returns-then-begun-ge257
 unfolding lengthen
-returns-then-begun-lt257 c = (λ x count. sym (if_lt c.args.begun 257 _ _ (omega arith)), omega arith)
+returns-then-begun-ge257 c = (λ x count. sym (if_not_lt c.args.begun 257 _ _ (omega arith)), omega arith)
 
 pub returns : goal.returns
 unfolding lengthen
-returns c = (λ x count. sym (if_not_lt c.args.begun 257 _ _ (omega arith)), omega arith)
+returns c = (λ x count. sym (if_lt c.args.begun 257 _ _ (omega arith)), omega arith)

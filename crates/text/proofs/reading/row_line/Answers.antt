@@ -1,4 +1,4 @@
--- `text::reading::row_line` meets its contract: four numbers behind the others, where there is room.
+-- Four numbers behind the others, where there is room.
 use native.Mathlib.Omega.{arith}
 use Rattle.text.specs.Feeding.{lent}
 use Rattle.text.proofs.Lines.{row_full, row_put}
@@ -12,6 +12,6 @@ returns-then-scripts-from-lt4 c =
 pub returns : goal.returns
 returns c =
     let o = c.args in
-    let put = c.put_all-end in
+    let put = c.put-end in
     λ bytes ids cells locals events i. row_put o.at (lent bytes ids cells locals o.scripts.now events) i o.kind o.a o.b o.c (omega arith)
     _ _ put.ensures.0 put.ensures.1

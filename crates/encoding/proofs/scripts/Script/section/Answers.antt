@@ -1,0 +1,7 @@
+use Rattle.std.proofs.Common.{refl}
+use Rattle.std.proofs.lemmas.Iterator.Consumers.{nth_from_yields_List, YieldsList-from_first}
+use Rattle.encoding.specs.Left.{section_from, sections_left}
+use Rattle.encoding.proofs.scripts.Script.section.Goals as goal
+
+pub returns : goal.returns
+returns c = nth_from_yields_List _ c.nth.new.self _ c.nth.ensures.ran (YieldsList-from_first section_from sections_left _ refl)

@@ -1,6 +1,0 @@
--- `shown::writing::put_numbered` meets its contract: a phrase, and the number behind it.
-use Rattle.shown.proofs.Putting.{◌then◌}
-use Rattle.shown.proofs.writing.put_numbered.Goals as goal
-
-pub returns : goal.returns
-returns c = c.put-number_at.ensures then c.put_number.ensures

@@ -1,9 +1,0 @@
--- `state::contents::file_end` meets its contract: the numbers of the slots are at most 8 a record, so that the sum fits.
-use native.Mathlib.Omega.{arith}
-use Rattle.state.proofs.Editions.{numbers_few}
-use Rattle.state.proofs.contents.file_end.Goals as goal
-
-pub overflow_add-result : goal.overflow_add-result
-overflow_add-result c =
-    let counts = c.args.c in
-    omega (arith, numbers_few counts.edition counts.slots)
