@@ -24,7 +24,8 @@ LENT = {
 SLOT_READERS = {"tables::slot_live", "tables::slot_generation"}
 # The places that are read: by slot_word a word of a slot, by the others N, S and, for the next task, the sequence, and rows: a task and the head
 # of a slot.
-ROW, RECORD, VIEW = "tables::record::load_row", "tables::record::load", "tables::view"
+ROWS = "tables::record"
+ROW, RECORD, VIEW = f"{ROWS}::read", f"{ROWS}::load", "tables::view"
 PLACES = {
     WORD: {
         SLOT: "SLOTS_AT + SLOT_WORDS * i + k", "tables::task_count": "0", "tables::slot_count": "1", "tables::ready_count": "READY_AT",
@@ -41,6 +42,9 @@ READ = {
 }
 HEAD = re.compile(r'(?:pub )?(?:extern "C" )?fn (\w+)(?:<[^(]*>)?\(')
 BYTES = re.compile(r"(\w+): (?:&(?:mut )?\[u8\]|View<'_>)")
+# How a kind of row is read: each of its words once, in order.
+KIND = re.compile(r"^impl Record<(\d+)> for (\w+) \{\n((?:(?!\}).*\n)*)\}$", re.M)
+KIND_READ = re.compile(r"    fn read\(m: &\[u8\], at: usize\) -> \w+\n(?:        .*\n)*?    \{\n        (\w+) \{\n((?:            \w+: .*,\n)+)        \}\n    \}\n")
 # A view's method, which hands its bytes and its own arguments to a function of tables.
 METHOD = re.compile(r"^    pub fn (\w+)\(self((?:, \w+: \w+)*)\) -> \w+\n(?:        .*\n)*?    \{\n        super::(\w+)\(self\.bytes((?:, \w+)*)\)\n    \}$", re.M)
 LOOP = re.compile(r"\b(?:while|for|loop)\b")
@@ -118,9 +122,23 @@ def split(text):
     return found
 
 
+def reads_in_order(text):
+    """Whether each kind of row is read word by word: word k of its W at its place k, and nothing else of the bytes."""
+    kinds = KIND.findall(text)
+    for words, name, body in kinds:
+        found = KIND_READ.findall(body)
+        places = [f"words::word(m, {f'at + {k}' if k else 'at'})" for k in range(int(words))]
+        if len(found) != 1 or found[0][0] != name or [line.split(": ", 1)[1].rstrip(",") for line in found[0][1].splitlines()] != places:
+            return False
+    return bool(kinds) and text.count("words::word(m,") == sum(int(words) for words, _, _ in kinds) + 1
+
+
 def functions(texts):
     """Every function with lent bytes, by its path. One that is laid out otherwise than all others is not known."""
-    found = {}
+    rows = texts[ROWS].replace("R::read(m, at)", "read(m, at)")
+    # the reading of a row, whichever kind it has, as one function
+    row = Function(ROWS, "m: &[u8], at: usize", "words::word(m, at + k)", rows, {}) if reads_in_order(rows) else None
+    texts, found = {**texts, ROWS: rows}, {ROW: row}
     views = {name: read for name, asked, read, given in METHOD.findall(texts[VIEW]) if re.sub(r": \w+", "", asked) == given}
     for module, text in texts.items():
         for name, parameters, body in split(text):
@@ -228,6 +246,8 @@ WRONG = {
     "the next task reads a slot for no task": ("lookup", LENDERS, "    v.head(0);\n" + LENDERS),
     "the slot of a wait is read twice": ("lookup::working", HEAD_READ, HEAD_READ + "    v.head(place as usize);\n"),
     "the step asks for the next task": ("calls::ident", FOUND, "    lookup::next_task(View::new(m));\n" + FOUND),
+    "a row reads a word of another slot": (ROWS, "            ticks: words::word(m, at + 3),\n", "            ticks: words::word(m, at + 41),\n"),
+    "a row reads a word twice": (ROWS, "            ticks: words::word(m, at + 3),\n", "            ticks: words::word(m, at + 3) + 0 * words::word(m, at + 3),\n"),
     "others can look too": ("lookup::looks", "\nfn next_look(", "\npub fn next_look("),
 }
 

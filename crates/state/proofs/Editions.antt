@@ -11,7 +11,7 @@ use Rattle.laws.specs.Choose.{choose}
 use Rattle.laws.proofs.Choose.{tested, if_yes, if_no}
 use Rattle.laws.specs.Rows.{tabulate}
 use Rattle.rules.specs.Machine.{Slot}
-use Rattle.tables.specs.Record.{row_at}
+use Rattle.tables.specs.Layout.{row_at}
 use Rattle.state.specs.File.{first_edition, numbers_row}
 use Rattle.state.specs.Reading.{slot_numbers, slots_in, first_maximum, slot_of_row}
 

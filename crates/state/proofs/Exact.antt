@@ -18,7 +18,7 @@ use Rattle.rules.specs.Machine.{Tables}
 use Rattle.rules.specs.Agreement.{Agrees, agrees}
 use Rattle.rules.proofs.Invariants.Agreeing.{agrees_true, true_agrees}
 use Rattle.tables.specs.Codec.{task_row}
-use Rattle.tables.specs.Record.{row_at}
+use Rattle.tables.specs.Layout.{row_at}
 use Rattle.calls.proofs.Agreeing.{agrees_holds}
 use Rattle.state.specs.declared.contents.Counts.{Counts}
 use Rattle.state.specs.File.{is_started, tasks_body, numbers_row, slots_body, queue_row, queues_body, state_numbers, edition_file}

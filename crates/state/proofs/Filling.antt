@@ -3,6 +3,7 @@ use mathlib.Core.Path.{◌≡◌, refl, sym, ap, ap₂, ◌∙◌}
 use mathlib.Core.Bool.{Bool, true, false}
 use mathlib.Core.List.{List, [], ◌∷◌, ◌++◌}
 use Prim.Native.Nat.{ℕ, suc, ◌+◌, ◌-◌, ◌*◌, ◌≤◌, ◌<◌}
+use native.Mathlib.Nat.{add-zero}
 use native.Mathlib.Numerals.{add-one}
 use native.Mathlib.Omega.{arith}
 use lib.Dec.{leb, eqb}
@@ -19,7 +20,7 @@ use Rattle.rules.specs.Machine.{Slot, Tables, unstarted, no_task, free_slot, wit
 use Rattle.rules.specs.Semaphore.{requeued}
 use Rattle.tables.specs.declared.Head.{Head}
 use Rattle.tables.specs.Codec.{task_row, task_from}
-use Rattle.tables.specs.Record.{row_at}
+use Rattle.tables.specs.Layout.{row_at}
 use Rattle.tables.specs.Layout.{task_place, laid, queue_of, slot_with}
 use Rattle.tables.proofs.LayoutStore.{store_task_laid, starting, start_counts}
 use Rattle.state.specs.declared.contents.Counts.{Counts}
@@ -47,31 +48,18 @@ module _ (bs : List ℕ) (edition at : ℕ) where
   number_first : (k : ℕ) → k < 7 → word_at bs (at + k) ≡ get_or (numbers_at bs edition at) k 0
   number_first k h = number_at k (omega (arith, numbers_least edition))
 
-  pub head_read : (row : List ℕ) (m : ℕ) → row ≡ row_at bs at 7 → m ≡ (head_of_row edition (numbers_at bs edition at)).maximum
-      → ◌≡◌ {A = Head}
-      (record {
-        generation = get_or row 0 0;
-        live = get_or row 1 0;
-        name = get_or row 2 0;
-        attributes = get_or row 3 0;
-        count = get_or row 4 0;
-        owner = get_or row 5 0;
-        nest = get_or row 6 0;
-        maximum = m;
-        waiters = 0;
-      })
+  pub head_read : (a b c d e f g m : ℕ) → a ≡ word_at bs at → b ≡ word_at bs (at + 1) → c ≡ word_at bs (at + 2) → d ≡ word_at bs (at + 3)
+      → e ≡ word_at bs (at + 4) → f ≡ word_at bs (at + 5) → g ≡ word_at bs (at + 6) → m ≡ (head_of_row edition (numbers_at bs edition at)).maximum
+      → ◌≡◌ {A = Head} (record { generation = a; live = b; name = c; attributes = d; count = e; owner = f; nest = g; maximum = m; waiters = 0 })
       (head_of_row edition (numbers_at bs edition at))
-  head_read row m e em =
-      let read : (k : ℕ) → k < 7 → get_or row k 0 ≡ get_or (numbers_at bs edition at) k 0 =
-      λ k h. ap (λ (r : List ℕ). get_or r k 0) e ∙ get_d_tabulate 7 (λ j. word_at bs (at + j)) k 0 h ∙ number_first k h
-      in
-      let la = read 0 (omega arith) in
-      let lb = read 1 (omega arith) in
-      let lc = read 2 (omega arith) in
-      let ld = read 3 (omega arith) in
-      let le = read 4 (omega arith) in
-      let lf = read 5 (omega arith) in
-      let lg = read 6 (omega arith) in
+  head_read a b c d e f g m ea eb ec ed ee ef eg em =
+      let la = ea ∙ ap (word_at bs) (sym (add-zero at)) ∙ number_first 0 (omega arith) in
+      let lb = eb ∙ number_first 1 (omega arith) in
+      let lc = ec ∙ number_first 2 (omega arith) in
+      let ld = ed ∙ number_first 3 (omega arith) in
+      let le = ee ∙ number_first 4 (omega arith) in
+      let lf = ef ∙ number_first 5 (omega arith) in
+      let lg = eg ∙ number_first 6 (omega arith) in
       λ k. record { generation = la k; live = lb k; name = lc k; attributes = ld k; count = le k; owner = lf k; nest = lg k; maximum = em k; waiters = 0 }
 
   pub maximum_read : (m : ℕ) → (edition ≡ first_edition → ⊥) → m ≡ word_at bs (at + 7) → m ≡ (head_of_row edition (numbers_at bs edition at)).maximum

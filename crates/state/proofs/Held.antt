@@ -18,7 +18,7 @@ use Rattle.rules.specs.Machine.{Slot, Tables, no_task, free_slot}
 use Rattle.rules.proofs.Invariants.Facts.{class_within}
 use Rattle.semaphore.specs.Record.{record_of}
 use Rattle.tables.specs.Codec.{task_row, task_from, slot_row}
-use Rattle.tables.specs.Record.{row_at}
+use Rattle.tables.specs.Layout.{row_at}
 use Rattle.tables.specs.Layout.{task_place, slot_place, sequence_place}
 use Rattle.tables.specs.Sizes.{Holds}
 use Rattle.tables.proofs.LayoutWords.{no_slot_word, task_word, slot_word, sequence_word}

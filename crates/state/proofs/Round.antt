@@ -11,7 +11,7 @@ use Rattle.words.proofs.WordsInBytes.{Words}
 use Rattle.rules.specs.declared.Task.{Task}
 use Rattle.rules.specs.Machine.{Slot, Tables, free_slot}
 use Rattle.tables.specs.Codec.{task_row, task_from}
-use Rattle.tables.specs.Record.{row_at}
+use Rattle.tables.specs.Layout.{row_at}
 use Rattle.state.specs.declared.contents.Counts.{Counts}
 use Rattle.state.specs.File.{tasks_body, numbers_row, slots_body, queue_row, queues_body, state_numbers, edition_file}
 use Rattle.state.specs.Reading.{slot_numbers, slots_in, counts_in, slots_start, queues_start, ready_start, tasks_from, slot_of_row, slots_from}

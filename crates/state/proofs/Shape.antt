@@ -13,7 +13,7 @@ use Rattle.laws.specs.Rows.{rows}
 use Rattle.laws.proofs.Fit.{length_tabulate}
 use Rattle.words.specs.Words.{word_at, same_words}
 use Rattle.rules.specs.Machine.{Slot, free_slot}
-use Rattle.tables.specs.Record.{row_at}
+use Rattle.tables.specs.Layout.{row_at}
 use Rattle.state.specs.declared.contents.Counts.{Counts}
 use Rattle.state.specs.File.{queue_row}
 use Rattle.state.specs.Reading.{slot_numbers, slots_in, counts_in, file_end, slot_of_row, slots_from}

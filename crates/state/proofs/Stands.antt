@@ -13,7 +13,7 @@ use Rattle.laws.proofs.All.{all_at, all_of}
 use Rattle.laws.proofs.Fit.{length_tabulate, get_d_tabulate, tabulate_is}
 use Rattle.words.specs.Words.{bytes_of, word_at, same_words}
 use Rattle.words.proofs.WordsInBytes.{Bytes, Words, word_at_bytes_of, bytes_words}
-use Rattle.tables.specs.Record.{row_at}
+use Rattle.tables.specs.Layout.{row_at}
 
 -- the numbers stand from number `at` on
 abbrev pub Stands : List ℕ → ℕ → List ℕ → Type 0

@@ -8,7 +8,7 @@ use Rattle.rules.specs.Numbers.{within, class_maximum}
 use Rattle.rules.specs.Machine.{Slot, Tables, free_slot}
 use Rattle.rules.specs.Agreement.{agrees}
 use Rattle.tables.specs.Codec.{task_from}
-use Rattle.tables.specs.Record.{row_at}
+use Rattle.tables.specs.Layout.{row_at}
 use Rattle.state.specs.declared.contents.Counts.{Counts}
 use Rattle.state.specs.File.{is_started, first_edition, second_edition, edition_file, state_file}
 

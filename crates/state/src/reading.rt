@@ -4,7 +4,7 @@ ghost use Rattle.rules.specs.Machine.{Tables, unstarted, no_task, free_slot, wit
 ghost use Rattle.rules.specs.Semaphore.{requeued};
 ghost use Rattle.words.specs.Words.{word_at};
 ghost use Rattle.tables.specs.Layout.{tables_length, laid, queue_of};
-ghost use Rattle.tables.specs.Record.{row_at};
+ghost use Rattle.tables.specs.Layout.{row_at};
 ghost use Rattle.state.specs.Reading.{slot_numbers, tasks_from, maximum_of_row, slot_of_row, slots_from, tables_in, is_state};
 ghost use Rattle.rules.specs.Status.{status};
 ghost use Rattle.state.specs.Shape.{is_headed, queues_fit, is_filled, head_of_row, unless_invalid};
@@ -31,15 +31,14 @@ fn head_in(file: &[u8], edition: u32, at: usize) -> Head
     requires { 4 * at + 4 * slot_numbers edition 1 ≤ length file.now }
     ensures { result ≡ head_of_row edition (row_at file.now at (slot_numbers edition 1)) }
 {
-    let [generation, live, name, attributes, count, owner, nest] = tables::load_row::<7>(file, at);
     Head {
-        generation,
-        live,
-        name,
-        attributes,
-        count,
-        owner,
-        nest,
+        generation: words::word(file, at),
+        live: words::word(file, at + 1),
+        name: words::word(file, at + 2),
+        attributes: words::word(file, at + 3),
+        count: words::word(file, at + 4),
+        owner: words::word(file, at + 5),
+        nest: words::word(file, at + 6),
         maximum: maximum_in(file, edition, at),
         waiters: 0,
     }

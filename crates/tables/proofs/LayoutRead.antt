@@ -17,7 +17,7 @@ use Rattle.rules.specs.Semaphore.{requeued}
 use Rattle.semaphore.specs.declared.Semaphore.{Semaphore}
 use Rattle.semaphore.specs.Record.{slot_from, record_of, Padded}
 use Rattle.tables.specs.Codec.{task_row, task_from, record_row, record_from, slot_row}
-use Rattle.tables.specs.Record.{row_at}
+use Rattle.tables.specs.Layout.{row_at}
 use Rattle.tables.specs.Layout.{tables_length, task_place, slot_place, ready_place, sequence_place, layout, laid, task_at, record_at, sequence_at}
 use Rattle.tables.specs.Layout.{model_of}
 use Rattle.tables.specs.Sizes.{Limited, Holds}

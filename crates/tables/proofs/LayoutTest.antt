@@ -19,7 +19,7 @@ use Rattle.rules.specs.Machine.{Slot, Tables, no_task, free_slot}
 use Rattle.semaphore.specs.declared.Semaphore.{Semaphore}
 use Rattle.semaphore.specs.Record.{slot_from, Padded}
 use Rattle.tables.specs.Codec.{task_row, task_from, record_from, slot_row}
-use Rattle.tables.specs.Record.{row_at}
+use Rattle.tables.specs.Layout.{row_at}
 use Rattle.tables.specs.Layout.{tables_length, task_place, slot_place, ready_place, sequence_place, layout, laid, task_at, record_at}
 use Rattle.tables.specs.Layout.{model_of, is_queue_laid, is_sequence_laid, is_laid}
 use Rattle.tables.specs.Sizes.{Bounded, Limited, Holds, IsLayout}

@@ -10,7 +10,7 @@ use Rattle.words.specs.Words.{bytes_of, word_at}
 use Rattle.semaphore.specs.declared.Semaphore.{Semaphore}
 use Rattle.tables.specs.declared.Head.{Head}
 use Rattle.tables.specs.Codec.{head_row, head_from, record_row}
-use Rattle.tables.specs.Record.{row_at}
+use Rattle.tables.specs.Layout.{row_at}
 use Rattle.tables.specs.Layout.{slot_place, head_of, record_at}
 use Rattle.tables.proofs.LayoutRead.{queue_places, queue_word_at}
 

@@ -12,7 +12,6 @@ use Rattle.semaphore.specs.declared.Semaphore.{Semaphore}
 use Rattle.semaphore.specs.Record.{slot_from}
 use Rattle.tables.specs.declared.Head.{Head}
 use Rattle.tables.specs.Codec.{task_row, task_from, record_from, slot_row}
-use Rattle.tables.specs.Record.{row_at}
 
 -- 2787 words of four bytes
 abbrev pub tables_length : ℕ
@@ -43,6 +42,10 @@ unfoldable pub laid : Tables → List ℕ
 laid t = bytes_of (layout t)
 
 -- ---- from bytes to tables
+
+-- n words from index `at` on
+abbrev pub row_at : List ℕ → ℕ → ℕ → List ℕ
+row_at bs at n = tabulate n (λ k. word_at bs (at + k))
 
 unfoldable pub task_at : List ℕ → ℕ → Task
 task_at bs i = task_from (row_at bs (task_place i) 4)

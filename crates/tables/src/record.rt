@@ -1,7 +1,8 @@
 ghost use Rattle.std.specs.Prelude.{◌≡◌, ◌+◌, ◌*◌, ◌≤◌, ℕ, List, length};
 ghost use Rattle.std.proofs.lemmas.List.Edits.{sets};
 ghost use Rattle.words.specs.Words.{bytes_of};
-ghost use Rattle.tables.specs.Record.{RecordLaws, row_at};
+ghost use Rattle.tables.specs.Layout.{row_at};
+ghost use Rattle.tables.specs.Record.{RecordLaws};
 
 use super::Head;
 use rules::Task;
@@ -17,6 +18,11 @@ pub trait Record<const W: usize>: Copy {
 
     fn from_words(words: [u32; W]) -> Self
         ensures { result ≡ value_of words.entry };
+
+    /// The value whose row begins at word `at`, each word read by itself: who needs few of them reads those alone.
+    fn read(m: &[u8], at: usize) -> Self
+        requires { 4 * (at + W) ≤ length m.now }
+        ensures { result ≡ value_of (row_at m.now at W) };
 
     ghost laws: { RecordLaws Self W words_of value_of };
 }
@@ -39,7 +45,7 @@ pub fn load<const W: usize, R: Record<W>>(m: &[u8], at: usize) -> R
     requires { 4 * (at + W) ≤ length m.now }
     ensures { result ≡ R.value_of (row_at m.now at W) }
 {
-    R::from_words(load_row::<W>(m, at))
+    R::read(m, at)
 }
 
 /// The row of a value, from word `at` on.
@@ -51,14 +57,14 @@ pub fn store<const W: usize, R: Record<W>>(m: &mut [u8], at: usize, value: R)
 }
 
 impl Record<4> for Task {
+    ghost use Rattle.std.specs.Prelude.{refl};
     ghost use Rattle.tables.specs.Codec.{task_row, task_from};
-    ghost use Rattle.tables.specs.Record.{task_laws};
 
     ghost words_of = { task_row };
 
     ghost value_of = { task_from };
 
-    ghost laws = { task_laws };
+    ghost laws = { record { width = λ x. refl; back = λ x. refl } };
 
     fn to_words(self) -> [u32; 4]
         ensures { result ≡ task_row self }
@@ -77,17 +83,30 @@ impl Record<4> for Task {
             ticks,
         }
     }
+
+    #[tactic(auto, unfolding(laws::specs::Rows::tabulate))]
+    fn read(m: &[u8], at: usize) -> Task
+        requires { 4 * (at + 4) ≤ length m.now }
+        ensures { result ≡ task_from (row_at m.now at 4) }
+    {
+        Task {
+            priority: words::word(m, at),
+            answer: words::word(m, at + 1),
+            awaited: words::word(m, at + 2),
+            ticks: words::word(m, at + 3),
+        }
+    }
 }
 
 impl Record<9> for Head {
+    ghost use Rattle.std.specs.Prelude.{refl};
     ghost use Rattle.tables.specs.Codec.{head_row, head_from};
-    ghost use Rattle.tables.specs.Record.{head_laws};
 
     ghost words_of = { head_row };
 
     ghost value_of = { head_from };
 
-    ghost laws = { head_laws };
+    ghost laws = { record { width = λ x. refl; back = λ x. refl } };
 
     fn to_words(self) -> [u32; 9]
         ensures { result ≡ head_row self }
@@ -129,6 +148,24 @@ impl Record<9> for Head {
             nest,
             maximum,
             waiters,
+        }
+    }
+
+    #[tactic(auto, unfolding(laws::specs::Rows::tabulate))]
+    fn read(m: &[u8], at: usize) -> Head
+        requires { 4 * (at + 9) ≤ length m.now }
+        ensures { result ≡ head_from (row_at m.now at 9) }
+    {
+        Head {
+            generation: words::word(m, at),
+            live: words::word(m, at + 1),
+            name: words::word(m, at + 2),
+            attributes: words::word(m, at + 3),
+            count: words::word(m, at + 4),
+            owner: words::word(m, at + 5),
+            nest: words::word(m, at + 6),
+            maximum: words::word(m, at + 7),
+            waiters: words::word(m, at + 8),
         }
     }
 }

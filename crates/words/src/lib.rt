@@ -21,7 +21,8 @@ pub fn set_word(m: &mut [u8], i: usize, w: u32)
     ensures { m.new ≡ sets m.old (4 * i) (bytes_of_word w) }
 {
     let at = 4 * i;
-    let [first, second, third, fourth] = w.to_be_bytes();
+    // low byte first, of the word turned round: so the compiler makes one store of the four
+    let [first, second, third, fourth] = w.swap_bytes().to_le_bytes();
     m[at] = first;
     m[at + 1] = second;
     m[at + 2] = third;

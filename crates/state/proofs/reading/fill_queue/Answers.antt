@@ -4,7 +4,7 @@ use native.Mathlib.Omega.{arith}
 use lib.ListN.{get_or, set}
 use Rattle.rules.specs.Machine.{free_slot, with_slots}
 use Rattle.rules.specs.Semaphore.{requeued}
-use Rattle.tables.specs.Record.{row_at}
+use Rattle.tables.specs.Layout.{row_at}
 use Rattle.tables.specs.Layout.{laid}
 use Rattle.state.proofs.Filling.{queue_none, queue_more}
 use Rattle.state.proofs.reading.fill_queue.Goals as goal
