@@ -1,2 +1,3 @@
 pub mod Signed
+pub mod Checking
 pub mod Telling

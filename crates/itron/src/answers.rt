@@ -1,13 +1,12 @@
 // The answers of the calls.
 ghost use Rattle.std.specs.Prelude.{◌≡◌, leb, pos};
 ghost use Rattle.laws.specs.Choose.{bit};
-ghost use Rattle.rules.specs.Status.{status_of};
 ghost use Rattle.itron.specs.Codes.{number_of, code_of, status_code};
 ghost use Rattle.itron.specs.Calls.{no_code, told_nothing};
 
 use super::codes::Code;
 use super::{Coded, Reference, codes};
-use rules::{Answer, Refusal};
+use rules::Answer;
 
 /// What a refused call answers. `next` is the next task of the tables, which stay as they are.
 pub fn refused(code: Code, next: u32) -> Coded
@@ -37,8 +36,8 @@ pub fn plain(a: Answer) -> Coded
 }
 
 /// What a Classic call answered, `code` for the one refusal of its own that it may have.
-pub fn over(a: Answer, refusal: Refusal, code: Code) -> Coded
-    ensures { result ≡ record { code = status_code (status_of refusal) (number_of code) a.status; next = a.next } }
+pub fn over(a: Answer, refusal: u32, code: i32) -> Coded
+    ensures { result ≡ record { code = status_code refusal code a.status; next = a.next } }
 {
     Coded {
         code: codes::status_code(refusal, code, a.status),
@@ -47,11 +46,11 @@ pub fn over(a: Answer, refusal: Refusal, code: Code) -> Coded
 }
 
 /// What a refused ref_sem answers.
-pub fn told_nothing(code: Code, next: u32) -> Reference
-    ensures { result ≡ told_nothing (number_of code) next }
+pub fn told_nothing(code: i32, next: u32) -> Reference
+    ensures { result ≡ told_nothing code next }
 {
     Reference {
-        code: code.number(),
+        code,
         next,
         exinf: 0,
         wtsk: 0,

@@ -1,9 +1,6 @@
 // The codes: error codes are negative numbers, and zero means E_OK.
 ghost use Rattle.std.specs.Prelude.{◌≡◌};
-ghost use Rattle.rules.specs.Status.{status_of};
 ghost use Rattle.itron.specs.Codes.{code_of, number_of, status_code};
-
-use rules::Refusal;
 
 pub const E_OK: i32 = 0;
 
@@ -57,12 +54,12 @@ pub fn code_of(answer: u32) -> i32
 }
 
 /// A Classic call's status as a code, where one of its refusals has a code of its own.
-#[tactic(auto, using(laws::proofs::Choose::cases), unfolding(crate::specs::Codes::status_code))]
-pub fn status_code(refusal: Refusal, code: Code, status: u32) -> i32
-    ensures { result ≡ status_code (status_of refusal) (number_of code) status }
+#[tactic(auto, using(laws::proofs::Choose::cases, crate::proofs::Signed::read), unfolding(crate::specs::Codes::status_code))]
+pub fn status_code(refusal: u32, code: i32, status: u32) -> i32
+    ensures { result ≡ status_code refusal code status }
 {
-    if status == refusal.status() {
-        code.number()
+    if status == refusal {
+        code
     } else {
         code_of(status)
     }

@@ -1,2 +1,4 @@
+pub mod Checked
 pub mod Replying
 pub mod Telling
+pub mod Reading

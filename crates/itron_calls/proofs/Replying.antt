@@ -2,19 +2,22 @@
 use mathlib.Core.Path.{◌≡◌, refl, sym, subst, subst₂, ap, ◌∙◌}
 use mathlib.Core.Bool.{true, false}
 use mathlib.Core.List.{List, []}
-use Prim.Native.Nat.{ℕ}
+use Prim.Native.Nat.{ℕ, ◌^◌, ◌<◌}
 use lib.Dec.{eqb}
 use lib.IntN.{ℤ, nat_abs}
-use lib.Signed.{non_neg}
+use lib.Signed.{mag, non_neg}
+use mir.Syntax.{w32}
+use mir.Val.{to_z, of_z}
 use borrow.Author.Tests.{eq-eqb, ne_eqb}
 use Rattle.laws.specs.Choose.{choose}
 use Rattle.laws.proofs.Choose.{if_yes, if_no, and_both}
+use Rattle.words.proofs.WordsInBytes.{Bytes}
 use Rattle.rules.specs.declared.Answer.{Answer}
 use Rattle.rules.specs.Numbers.{successful, too_many, unsatisfied}
 use Rattle.rules.specs.Machine.{Tables, next}
 use Rattle.rules.specs.declared.Call.{Call}
 use Rattle.rules.specs.declared.Call.TheVariants.{Create, Delete, Obtain, Release}
-use Rattle.rules.specs.Calls.{create, delete, obtain, perform}
+use Rattle.rules.specs.Calls.{Outcome, create, delete, obtain, perform}
 use Rattle.tables.specs.Layout.{laid, model_of}
 use Rattle.agreement.specs.Bytes.{agrees_bytes}
 use Rattle.calls.specs.declared.lent.Tables.{Tables as Lent}
@@ -30,6 +33,7 @@ use Rattle.itron.specs.declared.Coded.{Coded}
 use Rattle.itron.specs.Codes.{number_of, e_ok, e_nomem, e_qovr, e_tmout, code_of, status_code}
 use Rattle.itron.specs.Calls.{Listed, refused_by, unless_refused, over, delete_mapped, cre_refusal, attributes_of, cre_sem, del_refusal, del_sem, sig_refusal, sig_sem}
 use Rattle.itron.specs.Calls.{twai_refusal, wait_for, twai_sem}
+use Rattle.itron.proofs.Signed.{got}
 use Rattle.itron_calls.specs.Reply.{both_agree, reply_with, no_code, code_reply, delete_reply, Leaves}
 
 module _ (bs list : List ℕ) (e : both_agree bs list ≡ true) where
@@ -40,6 +44,9 @@ module _ (bs list : List ℕ) (e : both_agree bs list ≡ true) where
   pub list_agrees_lem : list_agrees (model_of bs) list ≡ true
   unfolding both_agree
   list_agrees_lem = (and_both (agrees_bytes bs) _ e).1
+
+  pub both_tested : Bytes bs → Agreeing bs
+  both_tested b = tested b bytes_agree
 
 -- both tests, one behind the other
 module _ (bs list : List ℕ) where
@@ -70,6 +77,25 @@ module _ {A : Type 0} (bs list : List ℕ) (disagreed : A) (call : Tables → Li
         bytes = q ∙ ap (λ (d : Listed A). laid d.tables) (sym is);
         list = s ∙ ap (λ (d : Listed A). d.list) (sym is);
       })
+
+-- a call of the family: x is what its checks give
+module _ (bs list : List ℕ) (e : both_agree bs list ≡ true) (call : Tables → List ℕ → Listed Coded) (x : ℤ) (done : Listed Coded)
+    (is : call (model_of bs) list ≡ unless_refused x (model_of bs) list done) where
+  pub leaves_over : non_neg x ≡ true → (code : ℕ → ℤ) (ls : List ℕ) (o : Outcome) → done ≡ over code ls o
+      → {a : Answer} {r : Coded} {after left : List ℕ} → Replied a after (reply o) → r ≡ record { code = code a.status; next = a.next }
+      → left ≡ ls → Leaves r after left (code_reply bs list call)
+  leaves_over n code ls o d {a} q p l =
+      leaves_done bs list no_code call e (over code ls o) (is ∙ if_yes _ _ n ∙ d)
+      (p ∙ ap (λ (b : Answer). record { code = code b.status; next = b.next }) q.answer) q.bytes l
+
+-- a code that a call gave, as the machine reads it back
+pub code_read : {code y : ℤ} → mag y < 2 ^ 31 → y ≡ code → to_z w32 (of_z w32 y) ≡ code
+code_read ok e = got ok ∙ e
+
+-- the one refusal with a code of its own, and that code, as the machine hands them on
+pub told_over : {refusal x : ℕ} → x ≡ refusal → {code y : ℤ} → y ≡ code → (a : Answer) {r : Coded}
+    → r ≡ record { code = status_code x y a.status; next = a.next } → r ≡ record { code = status_code refusal code a.status; next = a.next }
+told_over e f a p = p ∙ (λ i. record { code = status_code (e i) (f i) a.status; next = a.next })
 
 pub negative : (code : Code) → non_neg (number_of code) ≡ false
 negative Sys = refl
@@ -152,8 +178,8 @@ module _ {call : Tables → List ℕ → Listed Coded} {check : Tables → List 
       subst (λ (c : Call). Replied a after (reply (perform (model_of bs) c []))) is
       (subst₂ (λ (x y : List ℕ). Replied a y (reply (perform (model_of x) c []))) lent back q.replied)
       in
-      leaves_done bs list no_code call e (over code (kept list o.answer) o) (checked n ∙ if_yes _ _ refl)
-      (p ∙ ap (λ (b : Answer). record { code = code b.status; next = b.next }) q.answer) q.bytes (l ∙ ap (λ (a : Answer). kept list a) q.answer)
+      leaves_over bs list e call e_ok (over code (kept list o.answer) o) (checked n) refl code (kept list o.answer) o refl q p
+      (l ∙ ap (λ (a : Answer). kept list a) q.answer)
 
 -- Classic delete with the list: done, it forgets the identifier, and refused it does not
 module _ (bs list : List ℕ) (e : both_agree bs list ≡ true) (caller id : ℕ) {old new : Lent} {after : List ℕ} (lent : old.bytes.now ≡ bs)

@@ -17,7 +17,7 @@ use Rattle.tables.specs.Layout.{model_of, record_at, head_of}
 use Rattle.calls.specs.Agreeing.{Agreeing}
 use Rattle.calls.specs.Entered.{Found}
 use Rattle.calls.proofs.Entering.{waiters_are, count_within, unnamed, slot_within, found_loaded}
-use Rattle.mapping.specs.Mapping.{greatest_count, entry_of, is_counting, is_itron, is_mappable}
+use Rattle.mapping.specs.Mapping.{greatest_count, entry_of, is_counting, is_itron, is_mappable, list_agrees}
 use Rattle.mapping.proofs.Agreeing.{list_fits}
 use Rattle.itron.specs.declared.Reference.{Reference}
 use Rattle.itron.specs.Codes.{e_ok}
@@ -25,7 +25,7 @@ use Rattle.itron.specs.Calls.{sig_refusal, ref_sem}
 use Rattle.itron_calls.specs.Reply.{both_agree, ref_reply}
 use Rattle.itron_calls.proofs.Replying.{list_agrees_lem}
 
-module _ (bs list : List ℕ) (g : Agreeing bs) (e : both_agree bs list ≡ true) (semid : ℕ) (some : 1 ≤ entry_of list semid) where
+module _ (bs list : List ℕ) (g : Agreeing bs) (l : list_agrees (model_of bs) list ≡ true) (semid : ℕ) (some : 1 ≤ entry_of list semid) where
   abbrev t : Tables
   t = model_of bs
 
@@ -34,19 +34,19 @@ module _ (bs list : List ℕ) (g : Agreeing bs) (e : both_agree bs list ≡ true
 
   mappable : (names t id ≡ true) × (is_itron (slot_of t (slot_named t id)) ≡ true)
   unfolding is_mappable
-  mappable = and_both (names t id) _ ((list_fits (list_agrees_lem bs list e)).mappable (pred semid) (λ z. absurd (omega arith)))
+  mappable = and_both (names t id) _ ((list_fits l).mappable (pred semid) (λ z. absurd (omega arith)))
 
-  is_named : slot_named t id ≡ 0 → ⊥
+  pub is_named : slot_named t id ≡ 0 → ⊥
   is_named z = never mappable.0 (unnamed g id 0 (sym z) refl)
 
   module _ (n : ℕ) (asked : n ≡ slot_named t id) (first : 1 ≤ n) where
-    found : Found t id n (record_at bs (n - 1))
+    pub found : Found t id n (record_at bs (n - 1))
     found = found_loaded g id n asked (λ z. absurd (omega arith)) (record_at bs (n - 1)) refl
 
-    slot_is : slot_of t n ≡ slot_of t (slot_named t id)
+    pub slot_is : slot_of t n ≡ slot_of t (slot_named t id)
     slot_is = ap {B = Slot} (λ (k : ℕ). slot_of t k) asked
 
-    few : (record_at bs (n - 1)).count ≤ greatest_count
+    pub few : (record_at bs (n - 1)).count ≤ greatest_count
     few =
         let s = slot_of t (slot_named t id) in
         let most = leb-true s.maximum greatest_count (and_both (is_counting s.attributes) (leb s.maximum greatest_count) mappable.1).1 in
@@ -62,11 +62,14 @@ module _ (bs list : List ℕ) (semid : ℕ) (e : both_agree bs list ≡ true) (g
   some : 1 ≤ entry_of list semid
   some = omega (arith, mapped)
 
+  l : list_agrees (model_of bs) list ≡ true
+  l = list_agrees_lem bs list e
+
   here : slot_named (model_of v) id ≡ slot_named (model_of bs) (entry_of list semid)
   here = ap₂ (λ (bs : List ℕ) (id : ℕ). slot_named (model_of bs) id) same mapped.0
 
   pub names_slot : slot_named (model_of v) id ≡ 0 → ⊥
-  names_slot z = is_named bs list g e semid some (sym here ∙ z)
+  names_slot z = is_named bs list g l semid some (sym here ∙ z)
 
   module _ {n : ℕ} (named : (n ≡ slot_named (model_of v) id) × (1 ≤ n)) where
     number : (n ≡ slot_named (model_of bs) (entry_of list semid)) × (1 ≤ n)
@@ -79,18 +82,18 @@ module _ (bs list : List ℕ) (semid : ℕ) (e : both_agree bs list ≡ true) (g
       read_as : h ≡ head_of (record_at bs (n - 1))
       read_as = loaded ∙ ap (λ (bs : List ℕ). head_of (record_at bs (n - 1))) same
 
-      count_told : h.count ≡ (meant bs list semid).count
+      pub count_told : h.count ≡ (meant bs list semid).count
       count_told =
           ap (λ (h : Head). h.count) read_as
-          ∙ ap (λ (s : Slot). s.count) ((found bs list g e semid some n number.0 number.1).stands.same ∙ slot_is bs list g e semid some n number.0 number.1)
+          ∙ ap (λ (s : Slot). s.count) ((found bs list g l semid some n number.0 number.1).stands.same ∙ slot_is bs list g l semid some n number.0 number.1)
 
-      waiters_told : h.waiters ≡ length (meant bs list semid).queue
+      pub waiters_told : h.waiters ≡ length (meant bs list semid).queue
       waiters_told =
-          ap (λ (h : Head). h.waiters) read_as ∙ waiters_are (found bs list g e semid some n number.0 number.1).stands
-          ∙ ap (λ (s : Slot). length s.queue) (slot_is bs list g e semid some n number.0 number.1)
+          ap (λ (h : Head). h.waiters) read_as ∙ waiters_are (found bs list g l semid some n number.0 number.1).stands
+          ∙ ap (λ (s : Slot). length s.queue) (slot_is bs list g l semid some n number.0 number.1)
 
       pub count_few : h.count < 2 ^ 31
-      count_few = omega (arith, ap (λ (h : Head). h.count) read_as, few bs list g e semid some n number.0 number.1)
+      count_few = omega (arith, ap (λ (h : Head). h.count) read_as, few bs list g l semid some n number.0 number.1)
 
       pub reads : (caller : ℕ) → e_ok ≡ sig_refusal (model_of v) list caller semid → {n : ℕ} → n ≡ next (model_of v) → {wtsk semcnt : ℤ}
           → wtsk ≡ pos (bit (leb 1 h.waiters)) → semcnt ≡ pos h.count

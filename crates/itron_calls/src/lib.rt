@@ -52,7 +52,7 @@ pub fn cre_sem(
         Ok(call) => {
             let a = t.perform(call, &[]);
             mapping::entries::remember(list, semid, a);
-            answers::over(a, Refusal::TooMany, Code::NoMem)
+            answers::over(a, Refusal::TooMany.status(), Code::NoMem.number())
         }
         Err(code) => refused(t.view(), code),
     }
@@ -90,7 +90,7 @@ pub fn sig_sem(m: &mut [u8], list: &[u32], caller: u32, semid: u32) -> Coded
     match checks::sig_sem(t.view(), list, caller, semid) {
         Ok(call) => {
             let a = t.perform(call, &[]);
-            answers::over(a, Refusal::Unsatisfied, Code::QOvr)
+            answers::over(a, Refusal::Unsatisfied.status(), Code::QOvr.number())
         }
         Err(code) => refused(t.view(), code),
     }
@@ -109,7 +109,7 @@ pub fn twai_sem(m: &mut [u8], list: &[u32], caller: u32, semid: u32, tmout: i32)
     match checks::twai_sem(t.view(), list, caller, semid, tmout) {
         Ok(call) => {
             let a = t.perform(call, &[]);
-            answers::over(a, Refusal::Unsatisfied, Code::TmOut)
+            answers::over(a, Refusal::Unsatisfied.status(), Code::TmOut.number())
         }
         Err(code) => refused(t.view(), code),
     }
@@ -135,7 +135,7 @@ pub fn ref_sem(m: &[u8], list: &[u32], caller: u32, semid: u32) -> Reference
     ensures { result ≡ ref_reply m.now list.now caller semid }
 {
     if !is_agreeing(m, list) {
-        return answers::told_nothing(Code::Sys, 0);
+        return answers::told_nothing(Code::Sys.number(), 0);
     }
     let v = View::new(m);
     let next = lookup::next_task(v);
@@ -143,7 +143,7 @@ pub fn ref_sem(m: &[u8], list: &[u32], caller: u32, semid: u32) -> Reference
         Ok(id) => {
             // Never none: an entry of a list that agrees names a slot.
             let Some(n) = lookup::slot_named(v, id) else {
-                return answers::told_nothing(Code::NoExs, next);
+                return answers::told_nothing(Code::NoExs.number(), next);
             };
             let s = v.head(n as usize - 1);
             Reference {
@@ -154,7 +154,7 @@ pub fn ref_sem(m: &[u8], list: &[u32], caller: u32, semid: u32) -> Reference
                 semcnt: s.count as i32,
             }
         }
-        Err(code) => answers::told_nothing(code, next),
+        Err(code) => answers::told_nothing(code.number(), next),
     }
 }
 
