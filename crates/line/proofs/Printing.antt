@@ -1,15 +1,16 @@
--- Decimal digits, and text written over a list.
-use mathlib.Core.Path.{◌≡◌, sym, ap, ◌∙◌}
+-- Decimal digits from the back, and text written over a list.
+use mathlib.Core.Path.{◌≡◌, refl, sym, ap, ◌∙◌}
 use mathlib.Core.List.{List, [], ◌∷◌, ◌++◌, append_assoc, append-nil}
-use Prim.Native.Nat.{ℕ, zero, suc, ◌+◌, ◌/◌, ◌%◌, ◌^◌, ◌≤◌, ◌<◌}
-use native.Mathlib.Nat.{zero-add}
+use Prim.Native.Nat.{ℕ, zero, suc, ◌+◌, ◌-◌, ◌/◌, ◌%◌, ◌^◌, ◌≤◌, ◌<◌}
+use native.Mathlib.Nat.{pow-succ', zero-add, le_refl}
 use native.Mathlib.Omega.{arith}
 use lib.Dec.{leb}
-use lib.ListN.{length, take, drop, length-append, length-drop}
-use lib.Seq.{paste, take-length, take_at, drop-drop, length-take-le, drop-append-add}
+use lib.ListN.{length, take, drop, set, length-append, length-drop, length-set}
+use lib.Seq.{paste, take_all, take-length, take_at, drop-cons, drop-drop, drop-set-lt, get_or-set_same, length-take-le, drop-append-add}
 use Rattle.std.specs.Fmt.{decimal as written}
 use Rattle.std.proofs.lemmas.Fmt.{PrependsLastDigit, decimal_from_prepends, length-decimal-le}
-use Rattle.laws.proofs.Choose.{choose_cases, if_le, if_not_le}
+use Rattle.laws.specs.Choose.{choose}
+use Rattle.laws.proofs.Choose.{choose_cases, choose_map, if_le, if_not_le}
 use Rattle.line.specs.Print.{digits_before, decimal, answer_line, spliced}
 use Rattle.rules.specs.declared.Answer.{Answer}
 
@@ -29,6 +30,76 @@ decimal_is n h =
     let small : n < 2 ^ 64 = omega arith in
     let few : length (written n) ≤ 10 = length-decimal-le 10 n (omega arith) (omega arith) small in
     sym (decimal_from_prepends digits_before prepends 10 n [] small few ∙ append-nil (written n))
+
+-- ---- the digits from the back
+
+module _ (fuel n : ℕ) (after : List ℕ) where
+  last_digit : n ≤ 9 → digits_before (suc fuel) n after ≡ (48 + n % 10) ∷ after
+  unfolding digits_before
+  last_digit h = if_le n 9 ((48 + n % 10) ∷ after) (digits_before fuel (n / 10) ((48 + n % 10) ∷ after)) h
+
+  more_digits : 9 < n → digits_before (suc fuel) n after ≡ digits_before fuel (n / 10) ((48 + n % 10) ∷ after)
+  unfolding digits_before
+  more_digits h = if_not_le n 9 ((48 + n % 10) ∷ after) (digits_before fuel (n / 10) ((48 + n % 10) ∷ after)) h
+
+pub digits_append : (fuel n : ℕ) (xs ys : List ℕ) → digits_before fuel n xs ++ ys ≡ digits_before fuel n (xs ++ ys)
+unfolding digits_before
+digits_append zero n xs ys = refl
+digits_append (suc fuel) n xs ys =
+    choose_map (λ (l : List ℕ). l ++ ys) (leb n 9) ((48 + n % 10) ∷ xs) (digits_before fuel (n / 10) ((48 + n % 10) ∷ xs))
+    ∙ ap (λ (l : List ℕ). choose (leb n 9) ((48 + n % 10) ∷ xs ++ ys) l) (digits_append fuel (n / 10) ((48 + n % 10) ∷ xs) ys)
+
+-- there is room for as many digits as a number below a power of ten has
+pub room : (from rest : ℕ) → rest < 10 ^ from → 9 < rest → 2 ≤ from
+room zero rest h more = omega arith
+room (suc zero) rest h more = omega arith
+room (suc (suc k)) rest h more = omega arith
+
+pub room_left : (from rest : ℕ) → 1 ≤ from → rest < 10 ^ from → rest / 10 < 10 ^ (from - 1)
+room_left zero rest one h = omega arith
+room_left (suc k) rest one h =
+    let s : suc k - 1 ≡ k = omega arith in
+    rw s (omega (arith, pow-succ' 10 k))
+
+-- ---- a digit stored before the text so far
+
+stored : (bytes : List ℕ) (k b : ℕ) → k < length bytes → drop k (set bytes k b) ≡ b ∷ drop (suc k) bytes
+stored bytes k b h =
+    drop-cons (set bytes k b) k 0 (rw length-set h)
+    ∙ rw (get_or-set_same bytes k b 0, drop-set-lt (suc k) bytes k b (le_refl (suc k)))
+
+module _ (bytes : List ℕ) (rest : ℕ) where
+  pub text_more : (from : ℕ) → 1 ≤ from → from ≤ length bytes → 9 < rest
+      → digits_before from rest (drop from bytes) ≡ digits_before (from - 1) (rest / 10) (drop (from - 1) (set bytes (from - 1) (48 + rest % 10)))
+  text_more zero one h more = absurd (omega arith)
+  text_more (suc k) one h more =
+      let s : suc k - 1 ≡ k = omega arith in
+      let b : ℕ = 48 + rest % 10 in
+      more_digits k rest (drop (suc k) bytes) more
+      ∙ ap (digits_before k (rest / 10)) (sym (stored bytes k b (omega arith)))
+      ∙ sym (ap (λ (j : ℕ). digits_before j (rest / 10) (drop j (set bytes j b))) s)
+
+  pub text_over : (from : ℕ) → 1 ≤ from → from ≤ length bytes → rest ≤ 9
+      → digits_before from rest (drop from bytes) ≡ drop (from - 1) (set bytes (from - 1) (48 + rest))
+  text_over zero one h last = absurd (omega arith)
+  text_over (suc k) one h last =
+      let s : suc k - 1 ≡ k = omega arith in
+      let d : rest % 10 ≡ rest = omega arith in
+      last_digit k rest (drop (suc k) bytes) last
+      ∙ ap (λ (r : ℕ). (48 + r) ∷ drop (suc k) bytes) d
+      ∙ sym (stored bytes k (48 + rest) (omega arith))
+      ∙ sym (ap (λ (j : ℕ). drop j (set bytes j (48 + rest))) s)
+
+-- the part of the bytes from where the text begins
+pub part_is : (bytes text : List ℕ) (from : ℕ) → drop from bytes ≡ text → take (length bytes - from) (drop from bytes) ≡ text
+part_is bytes text from e = take_all (length bytes - from) (drop from bytes) (omega (arith, length-drop from bytes)) ∙ e
+
+-- a number's digits without the byte that ends them
+pub digits_part : (bytes : List ℕ) (v end from : ℕ) → length bytes ≡ 11 → from ≤ 10 → drop from bytes ≡ decimal v ++ end ∷ []
+    → take (10 - from) (drop from bytes) ≡ decimal v
+digits_part bytes v end from n h e =
+    let l : length (decimal v) ≡ 10 - from = omega (arith, ap length e, length-append (decimal v) (end ∷ []), length-drop from bytes) in
+    ap (λ (t : List ℕ). take (10 - from) t) e ∙ take_at (decimal v) (end ∷ []) (10 - from) l
 
 -- ---- text written over a list
 

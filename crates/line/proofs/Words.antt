@@ -1,7 +1,7 @@
--- The length of a line's first word, and words that are the same byte by byte.
-use mathlib.Core.Path.{◌≡◌, refl, sym, ap, subst, ◌∙◌}
+-- The length of a line's first word.
+use mathlib.Core.Path.{◌≡◌, sym, ap, ◌∙◌}
 use mathlib.Core.Logic.{◌≢◌}
-use mathlib.Core.Bool.{Bool, true, false, cond}
+use mathlib.Core.Bool.{Bool, cond}
 use mathlib.Core.List.{List, ◌∷◌}
 use Prim.Native.Nat.{ℕ, ◌+◌, ◌<◌}
 use native.Mathlib.Omega.{arith}
@@ -14,12 +14,7 @@ use Rattle.std.specs.Prelude.{Option, Some, None}
 use Rattle.std.specs.List.{position_or_len}
 use Rattle.std.proofs.lemmas.List.Recursion.{is_position_or_len}
 use Rattle.std.proofs.lemmas.List.Sums.{position_or_len_is}
-use Rattle.std.specs.Str.{bytes_eq, IsUtf8}
-use Rattle.std.proofs.Common.{rules}
-use Rattle.std.proofs.lemmas.Slice.Eq.{bytes_eq-Decides}
-use Rattle.laws.proofs.Choose.{if_no}
-use Rattle.line.specs.Line.{same_bytes, start_word, create_word, ident_word, delete_word, obtain_word, release_word, flush_word, tick_word}
-use Rattle.line.specs.Scan.{first, word_of}
+use Rattle.line.specs.Scan.{first}
 use Rattle.line.proofs.Fields.{first_none, first_space, first_cons}
 
 one_byte : (b : ℕ) (bs : List ℕ) → length (first (b ∷ bs)) ≡ cond (eqb b 32) 0 (1 + length (first bs))
@@ -45,35 +40,3 @@ module _ (l : List ℕ) where
   first_space_is (Some i) found =
       sym
       (word_length_is l ∙ position_or_len_is (λ b. eqb b 32) l i 0 (omega arith) (λ k h. ne_eqb (get_or l k 0) 32 (found.2 k h)) (λ h. eq-eqb (get_or l i 0) 32 found.1))
-
--- ---- what is none of the words
-
-module _ (f : List ℕ) where
-  no_bytes : (word : List ℕ) → f ≢ word → same_bytes f word ≡ false
-  no_bytes word d = answer (bytes_eq f word) (λ e. d ((bytes_eq-Decides f word).0 e))
-    where
-      answer : (t : Bool) → (t ≡ true → ⊥) → t ≡ false
-      answer true d = absurd (d refl)
-      answer false d = refl
-
-  pub no_word : f ≢ start_word → f ≢ create_word → f ≢ ident_word → f ≢ delete_word → f ≢ obtain_word → f ≢ release_word → f ≢ flush_word → f ≢ tick_word
-      → word_of f ≡ None
-  unfolding word_of
-  no_word start create ident delete obtain release flush tick =
-      if_no _ _ (no_bytes start_word start)
-      ∙ if_no _ _ (no_bytes create_word create)
-      ∙ if_no _ _ (no_bytes ident_word ident)
-      ∙ if_no _ _ (no_bytes delete_word delete)
-      ∙ if_no _ _ (no_bytes obtain_word obtain)
-      ∙ if_no _ _ (no_bytes release_word release)
-      ∙ if_no _ _ (no_bytes flush_word flush)
-      ∙ if_no _ _ (no_bytes tick_word tick)
-
-  -- nor is what is no text
-  pub no_text : ¬ IsUtf8 f → word_of f ≡ None
-  no_text n =
-      no_word (other start_word (search rules)) (other create_word (search rules)) (other ident_word (search rules)) (other delete_word (search rules))
-      (other obtain_word (search rules)) (other release_word (search rules)) (other flush_word (search rules)) (other tick_word (search rules))
-    where
-      other : (word : List ℕ) → IsUtf8 word → f ≢ word
-      other word text e = n (subst IsUtf8 (sym e) text)

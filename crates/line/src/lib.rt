@@ -6,9 +6,7 @@ ghost use Rattle.line.specs.Line.{line_of, scanned};
 ghost use Rattle.line.specs.Scan.{first, others, all_numbers, numbers_read, placed, digit_behind, word_of, with_count, started, asked_by};
 ghost use Rattle.line.specs.Print.{answer_line, bad_line, decimal, spliced};
 
-use itoa::Buffer;
 use rules::{Answer, Call, wait_of};
-use std::str::from_utf8;
 
 /// What a line asks, with how many numbers stand behind a start's first: they are left in the numbers lent to the scan.
 #[derive(Clone, Copy)]
@@ -45,19 +43,27 @@ pub fn word_length(line: &[u8]) -> usize
 }
 
 #[tactic(auto, using(laws::proofs::Choose::cases), unfolding(crate::specs::Scan::word_of))]
-fn word_of(text: &str) -> Option<Word>
-    ensures { result ≡ word_of text.now }
+fn word_of(word: &[u8]) -> Option<Word>
+    ensures { result ≡ word_of word.now }
 {
-    match text {
-        "start" => Some(Word::Start),
-        "create" => Some(Word::Create),
-        "ident" => Some(Word::Ident),
-        "delete" => Some(Word::Delete),
-        "obtain" => Some(Word::Obtain),
-        "release" => Some(Word::Release),
-        "flush" => Some(Word::Flush),
-        "tick" => Some(Word::Tick),
-        _ => None,
+    if word == b"start".as_slice() {
+        Some(Word::Start)
+    } else if word == b"create".as_slice() {
+        Some(Word::Create)
+    } else if word == b"ident".as_slice() {
+        Some(Word::Ident)
+    } else if word == b"delete".as_slice() {
+        Some(Word::Delete)
+    } else if word == b"obtain".as_slice() {
+        Some(Word::Obtain)
+    } else if word == b"release".as_slice() {
+        Some(Word::Release)
+    } else if word == b"flush".as_slice() {
+        Some(Word::Flush)
+    } else if word == b"tick".as_slice() {
+        Some(Word::Tick)
+    } else {
+        None
     }
 }
 
@@ -173,9 +179,34 @@ pub fn scan(line: &[u8], numbers: &mut [u32; 128]) -> Option<Request>
         return None;
     }
     let n = word_length(line);
-    let word = word_of(from_utf8(&line[..n]).ok()?)?;
+    let word = word_of(&line[..n])?;
     let count = read_numbers(line, n, numbers)?;
     request_of(word, count, numbers)
+}
+
+/// A number's text in decimal with the byte that ends it: it begins at `from`.
+#[derive(Clone, Copy)]
+pub struct Text {
+    pub bytes: [u8; 11],
+    pub from: usize,
+}
+
+/// The text of a number and the byte behind it.
+pub fn text_of(v: u32, end: u8) -> Text
+    ensures { (length result.bytes ≡ 11) × (result.from ≤ 10) × (drop result.from result.bytes ≡ decimal v ++ end ∷ []) }
+{
+    let mut bytes = [end; 11];
+    let mut from: usize = 10;
+    let mut rest = v;
+    // goes on by what is left of the number, from its last digit to its first
+    while 9 < rest {
+        from -= 1;
+        bytes[from] = b'0' + (rest % 10) as u8;
+        rest /= 10;
+    }
+    from -= 1;
+    bytes[from] = b'0' + rest as u8;
+    Text { bytes, from }
 }
 
 /// Writes `xs` at `at`, and returns where they end.
@@ -193,7 +224,8 @@ pub fn put_number(out: &mut [u8], at: usize, v: u32) -> usize
     requires { at + length (decimal v) ≤ length out.old }
     ensures { (result ≡ at + length (decimal v)) × (out.new ≡ spliced at (decimal v) out.old) }
 {
-    put(out, at, Buffer::new().format(v).as_bytes())
+    let text = text_of(v, b' ');
+    put(out, at, &text.bytes[text.from..10])
 }
 
 // A number and the byte that ends it.
@@ -201,8 +233,8 @@ fn put_ended(out: &mut [u8], at: usize, v: u32, end: u8) -> usize
     requires { at + 11 ≤ length out.old }
     ensures { (result ≡ at + length (decimal v ++ end ∷ [])) × (out.new ≡ spliced at (decimal v ++ end ∷ []) out.old) }
 {
-    let end_at = put_number(out, at, v);
-    put(out, end_at, &[end])
+    let text = text_of(v, end);
+    put(out, at, &text.bytes[text.from..])
 }
 
 /// Writes the answer line at the front of `out`, and returns its length, at most 33 bytes.

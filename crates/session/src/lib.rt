@@ -3,7 +3,7 @@
 
 ghost use Rattle.std.specs.Prelude.{◌≡◌, List, ℕ, ◌+◌, ◌≤◌, length, take, drop, replicate};
 ghost use Rattle.manager.specs.Entry.{Replied, reply_to};
-ghost use Rattle.session.specs.Kept.{respond, end_line, lengthen, at_end};
+ghost use Rattle.session.specs.Kept.{keeps, respond, end_line, lengthen, at_end};
 ghost use Rattle.session.specs.Feeding.{holding, Writes, Took, FedIs};
 
 use line::Request;
@@ -34,18 +34,17 @@ impl LineBuffer {
             length: 0,
         }
     }
+}
 
-    // One byte more of a line; beyond 256 only its being too long is kept.
-    fn push(&mut self, b: u8)
-        ensures { (bs : List ℕ) → holding bs self.new ≡ lengthen (holding bs self.old) b }
-    {
-        if self.length < 256 {
-            self.bytes[self.length] = b;
-            self.length += 1;
-        } else {
-            self.length = 257;
-        }
+// One byte more of a line; beyond 256 only its being too long is kept. Returns how long it is then.
+fn lengthened(line: &mut [u8; 256], begun: usize, b: u8) -> usize
+    ensures { (bs : List ℕ) → keeps bs line.new result ≡ lengthen (keeps bs line.old begun) b }
+{
+    if begun < 256 {
+        line[begun] = b;
+        return begun + 1;
     }
+    257
 }
 
 // A call with the priorities that stand behind the first of a line's numbers.
@@ -81,28 +80,35 @@ pub fn take_line(m: &mut [u8], line: &[u8])
 }
 
 // A line has ended: too long is bad.
-fn end_line(m: &mut [u8], line: &LineBuffer, out: &mut [u8], at: usize) -> usize
+fn end_line(m: &mut [u8], line: &[u8; 256], begun: usize, out: &mut [u8], at: usize) -> usize
     requires { at + 33 ≤ length out.old }
-    ensures { Writes (end_line (holding m.old line.now)) at result m.new out.old out.new }
+    ensures { Writes (end_line (keeps m.old line.now begun)) at result m.new out.old out.new }
 {
-    if 256 < line.length {
+    if 256 < begun {
         return at + line::print_bad(&mut out[at..]);
     }
-    answer_line(m, &line.bytes[..line.length], out, at)
+    answer_line(m, &line[..begun], out, at)
 }
 
 // A newline ends the line, and any other byte is one more of it. Returns the place behind what is said.
-fn take_byte(m: &mut [u8], line: &mut LineBuffer, b: u8, out: &mut [u8], at: usize) -> usize
+fn take_byte(
+    m: &mut [u8],
+    line: &mut [u8; 256],
+    begun: &mut usize,
+    b: u8,
+    out: &mut [u8],
+    at: usize,
+) -> usize
     requires { at + 33 ≤ length out.old }
-    ensures { Took (holding m.old line.old) b at result
-        (holding m.new line.new) out.old out.new }
+    ensures { Took (keeps m.old line.old begun.old) b at result
+        (keeps m.new line.new begun.new) out.old out.new }
 {
     if b == b'\n' {
-        let end = end_line(m, line, out, at);
-        line.length = 0;
+        let end = end_line(m, line, *begun, out, at);
+        *begun = 0;
         return end;
     }
-    line.push(b);
+    *begun = lengthened(line, *begun, b);
     at
 }
 
@@ -112,12 +118,16 @@ pub fn feed(m: &mut [u8], line: &mut LineBuffer, input: &[u8], out: &mut [u8]) -
         (holding m.new line.new) out.old out.new }
 {
     let mut written = 0;
+    // counted beside the line's bytes, since a count among them is loaded and stored with each byte
+    let mut begun = line.length;
     for (taken, b) in input.iter().enumerate() {
         if out.len() - written < 33 {
+            line.length = begun;
             return Fed { taken, written };
         }
-        written = take_byte(m, line, *b, out, written);
+        written = take_byte(m, &mut line.bytes, &mut begun, *b, out, written);
     }
+    line.length = begun;
     Fed {
         taken: input.len(),
         written,
@@ -131,5 +141,5 @@ pub fn finish(m: &mut [u8], line: &LineBuffer, out: &mut [u8; 33]) -> usize
     if line.length == 0 {
         return 0;
     }
-    end_line(m, line, out, 0)
+    end_line(m, &line.bytes, line.length, out, 0)
 }

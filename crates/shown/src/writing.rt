@@ -2,8 +2,6 @@
 ghost use Rattle.std.specs.Prelude.{◌≤◌};
 ghost use Rattle.std.proofs.Math.ListN.{length as size};
 
-use itoa::Buffer;
-
 /// The text at the front of lent bytes. What has no room is left out.
 #[derive(Drop)]
 pub struct Text<'a> {
@@ -42,7 +40,8 @@ impl<'a> Text<'a> {
     pub fn put_number(&mut self, v: u32)
         ensures { Puts (decimal v) self.old self.new }
     {
-        self.put(Buffer::new().format(v).as_bytes());
+        let text = line::text_of(v, b' ');
+        self.put(&text.bytes[text.from..10]);
     }
 
     /// A phrase and a number behind it.

@@ -1,17 +1,13 @@
 use mathlib.Core.List.{List}
-use mathlib.Core.Path.{◌≡◌, refl, sym, ap, ◌∙◌}
+use mathlib.Core.Path.{◌≡◌, sym, ap, ◌∙◌}
 use Prim.Native.Nat.{ℕ}
 use native.Mathlib.Omega.{arith}
-use lib.ListN.{get_or, take, length-take}
-use Rattle.std.proofs.Common.{rules}
+use lib.ListN.{get_or, length-take}
 use Rattle.std.specs.Prelude.{Option as Answered, None}
-use Rattle.std.specs.Str.{IsUtf8}
 use Rattle.std.proofs.Math.Option.{none}
 use Rattle.line.specs.Line.{line_of, scanned}
 use Rattle.line.specs.declared.Request.{Request}
-use Rattle.line.specs.Scan.{word_of}
 use Rattle.line.proofs.Fields.{word_ends}
-use Rattle.line.proofs.Words.{no_text}
 use Rattle.line.proofs.Requests.{too_long, scan_unknown, scan_broken, scan_read, word_fits}
 use Rattle.line.proofs.scan.Goals as goal
 
@@ -22,26 +18,17 @@ none_scanned bs ns e f = f ∙ sym (ap (λ (r : Answered Request). scanned r ns)
 pub returns-then-line-gt256 : goal.returns-then-line-gt256
 returns-then-line-gt256 c = too_long c.args.line.now (omega arith)
 
-pub slice_bounds-from_utf8-end : goal.slice_bounds-from_utf8-end
-slice_bounds-from_utf8-end c =
+pub slice_bounds-word_of-end : goal.slice_bounds-word_of-end
+slice_bounds-word_of-end c =
     let l : List ℕ = c.args.line.now in
     omega (arith, word_fits l, length-take c.word_length-n.result l)
-
--- no text is no word
-pub returns-in_err-ok : goal.returns-in_err-ok
-returns-in_err-ok c =
-    let l : List ℕ = c.args.line.now in
-    let word = c.word_length-n in
-    let is_none : ¬ IsUtf8 (take word.result l) = search rules in
-    none_scanned l _ c.from_residual.ensures (scan_unknown l word.result (omega arith) word.ensures None (sym (no_text (take word.result l) is_none)) refl)
 
 pub returns-in_err-word : goal.returns-in_err-word
 returns-in_err-word c =
     let l : List ℕ = c.args.line.now in
     let word = c.word_length-n in
     let kind = c.word_of in
-    let text : c.in_ok-ok.field-0.now ≡ take word.result l = search rules in
-    none_scanned l _ c.from_residual-in_err-word.ensures (scan_unknown l word.result (omega arith) word.ensures kind.result (kind.ensures ∙ ap word_of text) c.in_err-word.was)
+    none_scanned l _ c.from_residual.ensures (scan_unknown l word.result (omega arith) word.ensures kind.result kind.ensures c.in_err-word.was)
 
 pub read_numbers-requires : goal.read_numbers-requires
 read_numbers-requires c =
@@ -61,10 +48,9 @@ returns c =
     let word = c.word_length-n in
     let kind = c.word_of in
     let read = c.read_numbers in
-    let text : c.in_ok-ok.field-0.now ≡ take word.result l = search rules in
     scan_read l word.result (omega arith) word.ensures read.result _ c.in_ok-count.count c.in_ok-word.word c.request_of.result
     read.ensures.0
     read.ensures.1
     c.in_ok-count.was
-    (sym c.in_ok-word.was ∙ kind.ensures ∙ ap word_of text)
+    (sym c.in_ok-word.was ∙ kind.ensures)
     c.request_of.ensures
