@@ -18,18 +18,17 @@ use Rattle.text.specs.declared.vocabulary.Word.TheVariants as w
 use Rattle.text.specs.declared.vocabulary.Spoken.{Spoken}
 use Rattle.text.specs.Spoken.{number_of, said_of}
 use Rattle.std.specs.Prelude.{Ok, Option, Some}
-use Rattle.text.specs.declared.Part.{Part}
 use Rattle.text.specs.Words.{Said, says, said_by, is_step_word, opens_scripts}
 use Rattle.text.specs.Reading.{Reading, Room, Read, in_part, with_bytes, cell_line, local_line, row_line, section_begins, other_line, script_line, session_line}
 use Rattle.text.specs.Reading.{step_line, section_line}
 use Rattle.text.specs.Reading.Read.{Goes, Stops}
-use Rattle.text.specs.Feeding.{part_of, Lent, lent, reading_of, Inside, Leaves}
+use Rattle.text.specs.Feeding.{Lent, lent, reading_of, Inside, Leaves}
 use Rattle.text.proofs.Words.{number_not}
 use Rattle.text.proofs.Lines.{in_that_part, inside_part}
 
 -- another part of the file, and nothing stored
-pub leaves_part : {a : Read} {at : At} {l : Lent} (p : Part) → a ≡ Goes (in_part (part_of p) (reading_of at l)) → Inside at l → Leaves a (Ok (in_that_part p at)) l
-leaves_part p e i = record { read = sym e; inside = inside_part p i }
+pub leaves_part : {a : Read} {at : At} {l : Lent} (n : ℕ) → a ≡ Goes (in_part n (reading_of at l)) → Inside at l → Leaves a (Ok (in_that_part n at)) l
+leaves_part n e i = record { read = sym e; inside = inside_part n i }
 
 -- other bytes
 pub leaves_bytes : {a : Read} {at : At} {l : Lent} {bytes : List ℕ} → Goes (with_bytes bytes (reading_of at l)) ≡ a → Inside at l → (after : List ℕ)

@@ -17,7 +17,7 @@ use Rattle.text.specs.declared.Fault.TheVariants as fault
 use Rattle.text.specs.Words.{Said, says, said_by, is_event_word}
 use Rattle.text.specs.Reading.{Reading, Room, script_line, session_line, section_line, event_numbers, event_put, event_line, read_line}
 use Rattle.text.specs.Reading.Read.{Goes}
-use Rattle.text.specs.Feeding.{part_of, Lent, lent, room_of, reading_of, Inside, Leaves}
+use Rattle.text.specs.Feeding.{Lent, lent, room_of, reading_of, Inside, Leaves}
 use Rattle.text.proofs.Lines.{leaves_fault}
 
 -- ---- an event's numbers
@@ -68,7 +68,7 @@ module _ (at : At) (l : Lent) (i : Inside at l) (head rest : List ℕ) where
       record {
         read =
             ap (λ (es : List ℕ). Goes (record {
-              part = part_of at.part;
+              part = at.part;
               bytes = l.bytes;
               ids = take at.cells l.ids;
               cells = take at.cells l.cells;
@@ -104,8 +104,6 @@ module _ (room : Room) (r : Reading) (line : List ℕ) where
         ap (section_line room r) (sym said)
         ∙ sym (if_ne r.part 0 _ _ (λ d. omega arith) ∙ if_ne r.part 1 _ _ (λ d. omega arith) ∙ if_eq r.part 2 _ _ e)
 
-    pub line_event : r.part ≡ 3 → event_line room r s ≡ read_line room r line
+    pub line_event : (r.part ≡ 0 → ⊥) → (r.part ≡ 1 → ⊥) → (r.part ≡ 2 → ⊥) → event_line room r s ≡ read_line room r line
     unfolding read_line
-    line_event e =
-        ap (event_line room r) (sym said)
-        ∙ sym (if_ne r.part 0 _ _ (λ d. omega arith) ∙ if_ne r.part 1 _ _ (λ d. omega arith) ∙ if_ne r.part 2 _ _ (λ d. omega arith))
+    line_event d e f = ap (event_line room r) (sym said) ∙ sym (if_ne r.part 0 _ _ d ∙ if_ne r.part 1 _ _ e ∙ if_ne r.part 2 _ _ f)

@@ -19,7 +19,6 @@ use Rattle.session.specs.Kept.{Response}
 use Rattle.session.proofs.Line.{too_long}
 use Rattle.session.proofs.Output.{respond_is}
 use Rattle.session.proofs.Whole.{Plain, plain_more, lines_newline, lines_end, joined}
-use Rattle.text.specs.declared.Part.TheVariants as part
 use Rattle.text.specs.declared.feeding.Progress.{Progress}
 use Rattle.text.specs.declared.feeding.Faulty.{Faulty}
 use Rattle.std.specs.Prelude.{Ok, Err}
@@ -219,7 +218,7 @@ module _ (room : Room) where
 
 -- lent bytes of an unstarted machine and locals of 0, with nothing read, are the outset
 pub outset_kept : (p : Progress) (line : List ℕ) (l : Lent)
-    → p ≡ record { at = record { part = part.Session; cells = 0; scripts = 0; events = 0 }; begun = 0; count = 0 }
+    → p ≡ record { at = record { part = 0; cells = 0; scripts = 0; events = 0 }; begun = 0; count = 0 }
     → l.bytes ≡ laid unstarted → l.locals ≡ replicate 256 0 → kept_of p line l ≡ keeping outset line 0 0
 outset_kept p line l e b f =
     ap (λ (q : Progress). kept_of q line l) e

@@ -18,17 +18,15 @@ use Rattle.line.proofs.Printing.{length_spliced}
 use Rattle.session.proofs.Output.{front}
 use Rattle.text.specs.declared.At.{At}
 use Rattle.std.specs.Prelude.{Ok, Err}
-use Rattle.text.specs.declared.Part.{Part}
-use Rattle.text.specs.declared.Part.TheVariants as part
 use Rattle.text.specs.declared.Fault.{Fault as LineFault}
 use Rattle.text.specs.declared.Fault.TheVariants as fault
 use Rattle.text.specs.Reading.{Read, cell_line, local_line, row_line, section_begins}
 use Rattle.text.specs.Reading.Read.{Goes, Stops}
-use Rattle.text.specs.Feeding.{part_of, fault_of, Next, Lent, lent, room_of, reading_of, Inside, Leaves}
+use Rattle.text.specs.Feeding.{fault_of, Next, Lent, lent, room_of, reading_of, Inside, Leaves}
 
 -- another part of the file, and nothing stored
-abbrev pub in_that_part : Part → At → At
-in_that_part p at = record at { part = p }
+abbrev pub in_that_part : ℕ → At → At
+in_that_part n at = record at { part = n }
 
 pub leaves_as : {a b : Read} {next : Next} {l : Lent} → a ≡ b → Leaves a next l → Leaves b next l
 leaves_as {next = next} {l = l} e k = subst (λ (x : Read). Leaves x next l) e k
@@ -63,7 +61,7 @@ module _ (at : At) (l : Lent) (i : Inside at l) where
         record {
           read =
               ap₂ (λ (us cs : List ℕ). Goes (record {
-                part = part_of at.part;
+                part = at.part;
                 bytes = l.bytes;
                 ids = us;
                 cells = cs;
@@ -134,7 +132,7 @@ module _ (at : At) (l : Lent) (i : Inside at l) where
         record {
           read =
               ap (λ (ss : List ℕ). Goes (record {
-                part = part_of at.part;
+                part = at.part;
                 bytes = l.bytes;
                 ids = take at.cells l.ids;
                 cells = take at.cells l.cells;
@@ -161,11 +159,11 @@ module _ (at : At) (l : Lent) (i : Inside at l) where
 
     pub section_row : (at.scripts ≡ 0 → ⊥) → {next : Next} {after : Lent}
         → Leaves
-        (row_line (room_of l) (reading_of (in_that_part part.Section at) l) 2 id options timeout) next after
+        (row_line (room_of l) (reading_of (in_that_part 2 at) l) 2 id options timeout) next after
         → Leaves (section_begins (room_of l) (reading_of at l) id options timeout) next after
     unfolding section_begins
     section_row d k = leaves_as (sym (if_ne _ 0 _ _ (λ e. d (sym scripts_read ∙ e)))) k
 
 -- the same fronts lie inside in any part
-pub inside_part : {at : At} {l : Lent} (p : Part) → Inside at l → Inside (in_that_part p at) l
-inside_part p i = record { cells = i.cells; ids = i.ids; scripts = i.scripts; events = i.events; locals = i.locals }
+pub inside_part : {at : At} {l : Lent} (n : ℕ) → Inside at l → Inside (in_that_part n at) l
+inside_part n i = record { cells = i.cells; ids = i.ids; scripts = i.scripts; events = i.events; locals = i.locals }

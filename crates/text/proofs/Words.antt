@@ -15,7 +15,7 @@ use Rattle.line.specs.Line.{same_bytes}
 use Rattle.text.specs.declared.vocabulary.Word.{Word}
 use Rattle.text.specs.declared.vocabulary.Word.TheVariants as w
 use Rattle.text.specs.Words.{event_word, script_part, word_number}
-use Rattle.text.specs.Spoken.{number_of, number_or_none, text_of, every_word}
+use Rattle.text.specs.Spoken.{number_of, number_or_none, text_of, event_words, script_words, every_word}
 
 -- ---- a word is known by its number
 
@@ -85,12 +85,6 @@ module _ (word : List ℕ) where
       either n m true e = if_ne (number_of v) 0 _ _ (λ f. omega (arith, leb-true 1 (number_of v) (number_some v)))
       either n m false e = e
 
-  abbrev events : List Word
-  events = w.Turn ∷ w.Start ∷ w.Create ∷ w.Ident ∷ w.Delete ∷ w.Obtain ∷ w.Release ∷ w.Flush ∷ w.Tick ∷ []
-
-  abbrev scripts : List Word
-  scripts = w.Script ∷ w.Section ∷ w.Load ∷ w.Store ∷ w.Set ∷ w.Add ∷ w.Cell ∷ w.Local ∷ w.End ∷ w.Run ∷ []
-
   pub word_found : number_or_none (find (λ v. bytes_eq word (text_of v)) every_word) ≡ word_number word
   unfolding word_number event_word script_part first_in
-  word_found = found_in every_word ∙ sym (either_list scripts events)
+  word_found = found_in every_word ∙ sym (either_list script_words event_words)

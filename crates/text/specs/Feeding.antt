@@ -20,6 +20,13 @@ part_of part.Scripts = 1
 part_of part.Section = 2
 part_of part.Events = 3
 
+-- the part that a number stands for: any above 2 that of the events
+abbrev pub IsPart : ℕ → Part → Type 0
+IsPart n part.Session = n ≡ part_of part.Session
+IsPart n part.Scripts = n ≡ part_of part.Scripts
+IsPart n part.Section = n ≡ part_of part.Section
+IsPart n part.Events = (n ≡ part_of part.Session → ⊥) × (n ≡ part_of part.Scripts → ⊥) × (n ≡ part_of part.Section → ⊥)
+
 abbrev pub fault_of : LineFault → ℕ
 fault_of fault.NoLine = 1
 fault_of fault.LocalOutOfRange = 2
@@ -58,7 +65,7 @@ room_of l = record { cells = length l.cells; scripts = length l.scripts; events 
 abbrev pub reading_of : At → Lent → Reading
 reading_of at l =
     record {
-      part = part_of at.part;
+      part = at.part;
       bytes = l.bytes;
       ids = take at.cells l.ids;
       cells = take at.cells l.cells;

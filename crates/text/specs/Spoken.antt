@@ -53,6 +53,13 @@ every_word =
     w.Turn ∷ w.Start ∷ w.Create ∷ w.Ident ∷ w.Delete ∷ w.Obtain ∷ w.Release ∷ w.Flush ∷ w.Tick
     ∷ w.Script ∷ w.Section ∷ w.Load ∷ w.Store ∷ w.Set ∷ w.Add ∷ w.Cell ∷ w.Local ∷ w.End ∷ w.Run ∷ []
 
+-- those of events, and those of scripts
+abbrev pub event_words : List Word
+event_words = w.Turn ∷ w.Start ∷ w.Create ∷ w.Ident ∷ w.Delete ∷ w.Obtain ∷ w.Release ∷ w.Flush ∷ w.Tick ∷ []
+
+abbrev pub script_words : List Word
+script_words = w.Script ∷ w.Section ∷ w.Load ∷ w.Store ∷ w.Set ∷ w.Add ∷ w.Cell ∷ w.Local ∷ w.End ∷ w.Run ∷ []
+
 abbrev pub number_or_none : Option Word → ℕ
 number_or_none None = 0
 number_or_none (Some v) = number_of v

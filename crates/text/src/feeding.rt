@@ -18,7 +18,7 @@ impl Progress {
     /// Nothing is read.
     pub const OUTSET: Progress = Progress {
         at: At {
-            part: Part::Session,
+            part: Part::Session as u32,
             cells: 0,
             scripts: 0,
             events: 0,

@@ -7,23 +7,39 @@ mod numbers;
 pub mod reading;
 mod vocabulary;
 
+ghost use Rattle.text.specs.Feeding.{IsPart};
+
 /// The part of a file that a line stands in.
 #[derive(Clone, Copy, Debug, PartialEq, Eq)]
 pub enum Part {
     /// The session's lines, which make the tables.
-    Session,
+    Session = 0,
     /// Cells, locals and scripts.
-    Scripts,
+    Scripts = 1,
     /// The steps of a section.
-    Section,
+    Section = 2,
     /// The events of the run.
-    Events,
+    Events = 3,
 }
 
-/// How much of what is lent is read: the part of the file, and how many cells, numbers of scripts and numbers of events.
+impl From<u32> for Part {
+    // any number above 2 is that of the events
+    fn from(number: u32) -> Part
+        ensures { IsPart number result }
+    {
+        match number {
+            0 => Part::Session,
+            1 => Part::Scripts,
+            2 => Part::Section,
+            _ => Part::Events,
+        }
+    }
+}
+
+/// How much of what is lent is read: the number of the file's part, and how many cells, numbers of scripts and numbers of events.
 #[derive(Clone, Copy, Debug, PartialEq, Eq)]
 pub struct At {
-    pub part: Part,
+    pub part: u32,
     pub cells: usize,
     pub scripts: usize,
     pub events: usize,

@@ -64,7 +64,7 @@ fn section_begins(
         return Err(Fault::SectionWithoutScript);
     }
     let inside = At {
-        part: Part::Section,
+        part: Part::Section as u32,
         ..at
     };
     row_line(scripts, inside, 2, id, options, timeout)
@@ -98,7 +98,7 @@ fn script_line(
         Word::Load | Word::Store | Word::Set | Word::Add => Err(Fault::StepWithoutSection),
         Word::End => Err(Fault::EndWithoutSection),
         Word::Run => Ok(At {
-            part: Part::Events,
+            part: Part::Events as u32,
             ..at
         }),
         _ => Err(Fault::NoLine),
@@ -130,7 +130,7 @@ fn section_line(scripts: &mut [u32], at: At, spoken: Option<Spoken<'_>>) -> Resu
     };
     match word {
         Word::End => Ok(At {
-            part: Part::Scripts,
+            part: Part::Scripts as u32,
             ..at
         }),
         Word::Script => Err(Fault::ScriptInSection),
@@ -159,7 +159,7 @@ fn session_line(
         && word.opens_scripts()
     {
         let begun = At {
-            part: Part::Scripts,
+            part: Part::Scripts as u32,
             ..at
         };
         return script_line(ids, cells, locals, scripts, begun, spoken);
@@ -219,7 +219,7 @@ pub fn read_line(
 {
     let mut room = [0u32; 128];
     let spoken = vocabulary::said(line, &mut room);
-    match at.part {
+    match Part::from(at.part) {
         Part::Session => session_line(m, ids, cells, locals, scripts, at, line, spoken),
         Part::Scripts => script_line(ids, cells, locals, scripts, at, spoken),
         Part::Section => section_line(scripts, at, spoken),

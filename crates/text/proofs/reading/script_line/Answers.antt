@@ -1,6 +1,5 @@
 -- The line's kind by its word.
 use mathlib.Core.Path.{sym, ap, ◌∙◌}
-use Rattle.text.specs.declared.Part.TheVariants.{Events}
 use Rattle.text.specs.declared.Fault.TheVariants.{NoLine, EndWithoutSection, StepWithoutSection}
 use Rattle.text.specs.Spoken.{number_of, said_of}
 use Rattle.text.specs.Reading.{Reading, script_line}
@@ -82,7 +81,7 @@ returns-in-Run c =
     λ bytes events i.
     let l : Lent = lent bytes o.ids.now o.cells.now o.locals.now o.scripts.now events in
     let r : Reading = reading_of o.at l in
-    leaves_part Events
+    leaves_part 3
     (ap (script_line (room_of l) r) (said_some c.in-Some.is c.in-Some.field-0-is) ∙ script_run (room_of l) r _ _ (ap number_of c.in-Run.is)) i
 
 pub returns-in_default-word : goal.returns-in_default-word

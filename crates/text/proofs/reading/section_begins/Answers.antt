@@ -1,6 +1,5 @@
 -- A row in the script, where there is one.
 use Rattle.text.specs.Feeding.{lent}
-use Rattle.text.specs.declared.Part.TheVariants.{Section}
 use Rattle.text.proofs.Lines.{section_alone, section_row, inside_part}
 use Rattle.text.proofs.reading.section_begins.Goals as goal
 
@@ -14,4 +13,4 @@ pub returns : goal.returns
 returns c =
     let o = c.args in
     λ bytes ids cells locals events i. section_row o.at (lent bytes ids cells locals o.scripts.now events) i o.id o.options o.timeout
-    c.if-at-eq0.false (c.row_line.ensures bytes ids cells locals events (inside_part Section i))
+    c.if-at-eq0.false (c.row_line.ensures bytes ids cells locals events (inside_part 2 i))

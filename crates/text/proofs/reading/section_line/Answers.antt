@@ -1,6 +1,5 @@
 -- The section's end, two faults, or a step.
 use mathlib.Core.Path.{sym, ap, ◌∙◌}
-use Rattle.text.specs.declared.Part.TheVariants.{Scripts}
 use Rattle.text.specs.declared.Fault.TheVariants.{ScriptInSection, RunInSection}
 use Rattle.text.specs.Spoken.{number_of, said_of}
 use Rattle.text.specs.Reading.{Reading, step_line, section_line}
@@ -25,7 +24,7 @@ returns-in-End c =
     λ bytes ids cells locals events i.
     let l : Lent = lent bytes ids cells locals o.scripts.now events in
     let r : Reading = reading_of o.at l in
-    leaves_part Scripts
+    leaves_part 1
     (ap (section_line (room_of l) r) (said_some c.in-Some.is c.in-Some.field-0-is) ∙ section_ends (room_of l) r _ _ (ap number_of c.in-End.is)) i
 
 pub returns-in-Script : goal.returns-in-Script

@@ -2,7 +2,6 @@
 use mathlib.Core.Path.{◌≡◌, sym, ap, ◌∙◌}
 use mathlib.Core.Bool.{false}
 use Rattle.std.specs.Prelude.{None}
-use Rattle.text.specs.declared.Part.TheVariants.{Scripts}
 use Rattle.text.specs.Words.{Said, opens_scripts}
 use Rattle.text.specs.Spoken.{said_of}
 use Rattle.text.specs.Reading.{Reading}
@@ -21,7 +20,7 @@ returns c =
     leaves_as
     (session_opens (room_of l) r o.line.now _ c.requires.1
     (ap (λ (s : Said). opens_scripts s.word) (said_some c.in-Some.is c.in-Some.field-0-is) ∙ sym c.opens_scripts.ensures ∙ c.if-opens_scripts.true))
-    (c.script_line.ensures o.m.now events (inside_part Scripts i))
+    (c.script_line.ensures o.m.now events (inside_part 1 i))
 
 pub returns-2 : goal.returns-2
 returns-2 c =
