@@ -4,7 +4,6 @@ use Rattle.std.proofs.Math.ListN.{length-replicate}
 use Rattle.std.specs.declared.option.Option.{Option}
 use Rattle.std.specs.Io.KnownBytes.{Consumes, IsAtEnd}
 use Rattle.std.proofs.KnownBytes.{Consumes-nil, Consumes-trans}
-use Rattle.text.specs.declared.Part.TheVariants as part
 use Rattle.text.specs.declared.feeding.Progress.{Progress}
 use Rattle.text.specs.Reading.{Room, outset, read_text}
 use Rattle.text.specs.Reading.Outcome.{Fault}
@@ -71,7 +70,7 @@ module _ (room : Room) (k : Kept) (first u u' : Option (List ℕ)) (g : ReadSoFa
 -- ---- from the outset
 
 abbrev pub unread : Progress
-unread = record { at = record { part = part.Session; cells = 0; scripts = 0; events = 0 }; begun = 0; count = 0 }
+unread = record { at = record { part = 0; cells = 0; scripts = 0; events = 0 }; begun = 0; count = 0 }
 
 module _ (line : List ℕ) (l : Lent) (f : Fresh line l) where
   pub ready_outset : Ready unread line l

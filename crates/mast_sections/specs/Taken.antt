@@ -1,6 +1,7 @@
 -- What the program does with what it reads: the bytes are fed in order and once, and what is read at the end is what some text says, or its first fault.
 use Rattle.std.specs.Prelude.{◌≡◌, List, ◌++◌, ◌⊎◌, ℕ, Option, Result, Ok, Err, length, replicate}
 use Rattle.std.specs.Io.KnownBytes.{Consumes, IsAtEnd}
+use Rattle.std.specs.declared.io.Error.{Error}
 use Rattle.rules.specs.Machine.{unstarted}
 use Rattle.tables.specs.Layout.{laid}
 use Rattle.text.specs.declared.At.{At}
@@ -10,6 +11,11 @@ use Rattle.text.specs.Feeding.{fault_of, Lent, Kept, keeping, reading_of, kept_o
 use Rattle.text.specs.Feeding.Fed.{Keeps}
 use Rattle.mast_sections.specs.declared.reading.TextError.{TextError}
 use Rattle.mast_sections.specs.declared.reading.TextError.TheVariants.{Faulty, Unread, Unended}
+
+-- a read that failed, as why the text was not read
+abbrev pub unread : Result ℕ Error → Result ℕ TextError
+unread (Ok n) = Ok n
+unread (Err e) = Err (Unread e)
 
 -- ---- from the outset
 

@@ -18,7 +18,7 @@ use std::io;
 use std::io::{Error, Read, Write};
 use telling::Told;
 
-// Room for what a text says, in numbers.
+// Room for what a text says, in numbers. The sentences of `Told` name these limits.
 const CELLS: usize = 1024;
 
 const SCRIPTS: usize = 32768;
@@ -61,7 +61,7 @@ fn work<R: Read, W: Write, E: Write>(
         ),
         Err(TextError::Faulty(faulty)) => {
             // What standard error does not take cannot be told.
-            let _ = writeln!(err, "{}", Told(faulty));
+            let _ = write!(err, "{}", Told(faulty));
             Ok(0)
         }
         Err(TextError::Unread(e)) => Err(RunError::Unread(e)),

@@ -1,9 +1,10 @@
 // A text from a reader: what each read gives is fed before the next, so that no text is too long to be kept.
 ghost use Rattle.std.specs.Prelude.{◌≡◌, ◌≤◌, length};
 ghost use Rattle.text.specs.Feeding.{lent, room_of};
-ghost use Rattle.mast_sections.specs.Taken.{Fresh, Takes, TakesFrom};
+ghost use Rattle.mast_sections.specs.Taken.{Fresh, unread, Takes, TakesFrom};
 ghost use Rattle.mast_sections.specs.declared.reading.TextError.TheVariants.{Faulty as FaultyLine};
 
+use std::io;
 use std::io::{Error, Read};
 use text::At;
 use text::feeding::{self, Faulty, Progress};
@@ -25,6 +26,13 @@ impl From<Faulty> for TextError {
     fn from(faulty: Faulty) -> TextError {
         TextError::Faulty(faulty)
     }
+}
+
+// A read that failed, as why the text was not read.
+fn unread(heard: io::Result<usize>) -> Result<usize, TextError>
+    ensures { result ≡ unread heard }
+{
+    heard.map_err(TextError::Unread)
 }
 
 /// Reads a text to its end, and answers how much of what is lent it fills.
@@ -51,7 +59,7 @@ pub fn read_text<R: Read>(
 {
     let mut p = Progress::OUTSET;
     for _ in 0..u64::MAX {
-        let n = playing::hear(reader, input).map_err(TextError::Unread)?;
+        let n = unread(playing::hear(reader, input))?;
         if n == 0 {
             let last = feeding::finish(m, ids, cells, locals, scripts, events, line, p)?;
             return Ok(last.at);

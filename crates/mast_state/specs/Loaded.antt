@@ -1,5 +1,5 @@
 -- What the program does with the bytes of a file: those of a state file give its tables, which are shown or played on, and others nothing.
-use Rattle.std.specs.Prelude.{◌≡◌, Bool, true, false, List, ◌⊎◌, ℕ, ◌<◌, ◌≤◌, Option, length, take}
+use Rattle.std.specs.Prelude.{◌≡◌, Bool, true, false, List, ◌⊎◌, ℕ, ◌<◌, ◌≤◌, Option, Result, Ok, Err, length, take}
 use Rattle.std.specs.Io.KnownBytes.{Consumes, IsAtEnd}
 use Rattle.laws.specs.Choose.{choose}
 use Rattle.rules.specs.Machine.{unstarted}
@@ -8,6 +8,9 @@ use Rattle.calls.specs.Agreeing.{Agreeing}
 use Rattle.playing.specs.Turns.{Ran}
 use Rattle.state.specs.Reading.{tables_in, is_state}
 use Rattle.shown.specs.Shown.{shown_text}
+use Rattle.mast_state.specs.declared.showing.ShowError.{ShowError}
+use Rattle.mast_state.specs.declared.showing.ShowError.TheVariants.{Unloaded, Unwritten}
+use Rattle.mast_state.specs.declared.showing.ShortWrite.{ShortWrite}
 
 -- so many bytes, at the buffer's front, are what the reader had left, or the buffer is full of the front of it
 pub record ReadsAll (unread unread' : Option (List ℕ)) (n : ℕ) (buffer : List ℕ) : Type 0 where
@@ -56,3 +59,14 @@ pub record Shown (n : ℕ) (out : List ℕ) : Type 0 where
   pub file : List ℕ
   pub valid : is_state file ≡ true
   pub shows : Shows n (shown_text (tables_in file)) out
+
+-- how many bytes were handed to the writer, whether it took them all or not
+abbrev pub handed : Result ℕ ShortWrite → ℕ
+handed (Ok n) = n
+handed (Err e) = e.length
+
+-- it stands at the front of the output even where not all of it was written, unless there was none
+abbrev pub ShowsSome : Result ℕ ShowError → List ℕ → Type 0
+ShowsSome (Ok n) out = Shown n out
+ShowsSome (Err (Unloaded told)) out = Unit {0}
+ShowsSome (Err (Unwritten n told)) out = Shown n out

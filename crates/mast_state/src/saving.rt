@@ -101,23 +101,30 @@ fn unlink<R: Files>(rt: &R, name: &[u8]) {
 }
 
 // Fills a file beside the one of this path and then gives it that name, or removes it again: nobody sees half a file.
-fn replace_by(rt: &HostRuntime, name: &mut [u8], path: &[u8], contents: &[u8]) -> io::Result<usize>
+fn replace_by(
+    rt: &HostRuntime,
+    name: &mut [u8],
+    path: &[u8],
+    contents: &[u8],
+) -> Result<usize, Told>
     ensures { IfOk result (λ n. n ≡ length contents.now) }
 {
-    let file = create_temp(rt, name)?;
+    let file = create_temp(rt, name).map_err(|error| tell(rt, path, error))?;
     let replaced = match fill::<HostRuntime>(file, contents) {
         Ok(()) => rename(rt, name, path),
         Err(error) => Err(error),
     };
     if let Err(error) = replaced {
+        // told first, so that it is said even where the program is ended at the removal
+        let told = tell(rt, path, error);
         unlink(rt, name);
-        return Err(error);
+        return Err(told);
     }
     Ok(contents.len())
 }
 
-// Returns how many bytes the file of this path has now. On an error it is as it was.
-fn replace(rt: &HostRuntime, path: &[u8], contents: &[u8]) -> io::Result<usize>
+// Returns how many bytes the file of this path has now. On an error, which is told, it is as it was.
+fn replace(rt: &HostRuntime, path: &[u8], contents: &[u8]) -> Result<usize, Told>
     requires { length path.now ≤ 4096 }
     ensures { IfOk result (λ n. n ≡ length contents.now) }
 {
@@ -137,7 +144,7 @@ fn keep(rt: &HostRuntime, path: &[u8], m: &[u8], file: &mut [u8]) -> Result<usiz
             b"the session starts no machine, so there is no state to save.\n",
         ));
     };
-    replace(rt, path, &file[..length]).map_err(|error| tell(rt, path, error))
+    replace(rt, path, &file[..length])
 }
 
 /// Plays a session from a machine that is not started, and saves what it leaves if all of it was read and answered.

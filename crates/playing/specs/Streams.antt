@@ -2,6 +2,7 @@
 use Rattle.std.specs.Prelude.{◌≡◌, List, [], ◌∷◌, ◌++◌, ◌⊎◌, ℕ, ◌≤◌, Option, Result, Ok, Err, take, length, replicate, MatchResult, codes}
 use Rattle.std.specs.Io.KnownBytes.{Consumes, Appends, IsAtEnd}
 use Rattle.session.specs.Kept.{Kept, keeps, after_part, said_to_part, at_end}
+use Rattle.std.specs.declared.io.Error.{Error}
 use Rattle.playing.specs.declared.PlayError.{PlayError}
 use Rattle.playing.specs.declared.PlayError.TheVariants.{Unread, Unwritten}
 
@@ -15,7 +16,17 @@ AppendsFront old new bs = (n : ℕ) × Appends old new (take n bs)
 abbrev pub WritesAll : {T E : Type 0} → Result T E → Option (List ℕ) → Option (List ℕ) → List ℕ → Type 0
 WritesAll r old new bs = MatchResult r (λ _. Appends old new bs) (λ _. AppendsFront old new bs)
 
+-- a write that failed, as what broke the session off
+abbrev pub unwritten : {T : Type 0} → Result T Error → Result T PlayError
+unwritten (Ok x) = Ok x
+unwritten (Err e) = Err (Unwritten e)
+
 -- ---- what is read
+
+-- a read that failed, likewise
+abbrev pub unread : {T : Type 0} → Result T Error → Result T PlayError
+unread (Ok x) = Ok x
+unread (Err e) = Err (Unread e)
 
 -- what a read gave is what the reader had next; where there was room for a byte, none is the end of all that it had
 abbrev pub Hears : {E : Type 0} → Result ℕ E → Option (List ℕ) → Option (List ℕ) → List ℕ → Type 0

@@ -9,7 +9,7 @@ ghost use Rattle.std.specs.Io.KnownBytes.{Appends};
 ghost use Rattle.session.specs.Kept.{said_to_part, at_end};
 ghost use Rattle.session.specs.Feeding.{holding};
 ghost use Rattle.playing.specs.Turns.{Answers, Ran};
-ghost use Rattle.playing.specs.Streams.{AppendsFront, WritesAll, Hears, FedAll, CutOff, fresh, said_to_whole, Played, BrokeOff, Tells, what_failed};
+ghost use Rattle.playing.specs.Streams.{AppendsFront, WritesAll, Hears, FedAll, CutOff, fresh, said_to_whole, Played, BrokeOff, unread, unwritten, Tells, what_failed};
 
 use session::LineBuffer;
 use std::fmt::InlineText;
@@ -48,10 +48,24 @@ pub fn say<W: Write>(writer: &mut W, said: &[u8]) -> io::Result<()>
     Ok(())
 }
 
+// A read that failed, as what broke the session off.
+fn unread(heard: io::Result<usize>) -> Result<usize, PlayError>
+    ensures { result ≡ unread heard }
+{
+    heard.map_err(PlayError::Unread)
+}
+
+// A write that failed, likewise.
+fn unwritten(ended: io::Result<()>) -> Result<(), PlayError>
+    ensures { result ≡ unwritten ended }
+{
+    ended.map_err(PlayError::Unwritten)
+}
+
 fn say_answers<W: Write>(writer: &mut W, said: &[u8]) -> Result<(), PlayError>
     ensures { WritesAll result (W.contents writer.old) (W.contents writer.new) said.now }
 {
-    say(writer, said).map_err(PlayError::Unwritten)
+    unwritten(say(writer, said))
 }
 
 // Feeds the session once, and writes what it says. Returns how many bytes of the input were fed.
@@ -126,7 +140,7 @@ fn answer_all<R: Read, W: Write>(
 {
     let mut line = LineBuffer::new();
     for _ in 0..u64::MAX {
-        let n = hear(reader, input).map_err(PlayError::Unread)?;
+        let n = unread(hear(reader, input))?;
         if n == 0 {
             return answer_end(writer, m, &line);
         }
