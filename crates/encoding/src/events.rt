@@ -28,6 +28,7 @@ pub enum Event<'a> {
     Call { call: Call, priorities: &'a [u32] },
 }
 
+#[inline(always)]
 fn kind_of(number: u32) -> Option<Kind>
     ensures { KindOf number result }
 {
@@ -46,6 +47,7 @@ fn kind_of(number: u32) -> Option<Kind>
 }
 
 // How many numbers an event of a kind is. A start has as many priorities as it says.
+#[inline(always)]
 #[tactic(auto, unfolding(crate::specs::Events::size_of, laws::specs::Choose::choose))]
 fn size_of(kind: Kind, count: u32) -> usize
     ensures { result ≡ size_of (number_of kind) count }
@@ -61,6 +63,7 @@ fn size_of(kind: Kind, count: u32) -> usize
 }
 
 // The event of a kind that the numbers begin with.
+#[inline(always)]
 fn event_of(kind: Kind, e: &[u32]) -> Event<'_>
     requires { (1 ≤ event_size e.now) × (slice_index e.now 0 ≡ number_of kind) }
     ensures { event_from (Some result) ≡ event_at e.now }
@@ -98,6 +101,7 @@ fn event_of(kind: Kind, e: &[u32]) -> Event<'_>
 }
 
 // The event that numbers begin with, and those behind it. None where they begin with no kind, or with an event cut short.
+#[inline(always)]
 fn split_event(e: &[u32]) -> Option<(Event<'_>, &[u32])>
     ensures { SplitEvent e.now result }
 {
@@ -134,6 +138,8 @@ impl<'a> Iterator for Events<'a> {
 
     ghost remaining = { item_count events_left };
 
+    // inlined, as what it calls is, so that a caller that asks less of an event builds no whole one
+    #[inline(always)]
     #[tactic(auto, using(crate::proofs::ReadingEvents::events_end), unfolding(crate::specs::Events::events_from))]
     fn next(&mut self) -> Option<Option<Event<'a>>> {
         if self.numbers.is_empty() {

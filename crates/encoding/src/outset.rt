@@ -10,8 +10,15 @@ use super::{places, scripts};
 fn clear_places(places: &mut [u32], n: usize)
     ensures { places.new ≡ laid_places places.old (replicate n (at 0 0)) }
 {
-    let room = n.saturating_mul(2).min(places.len());
-    places[..room].fill(0);
+    // not by fill, of which the compiler makes a call of memset
+    let mut k = 0;
+    while k < places.len() {
+        if n <= k / 2 {
+            return;
+        }
+        places[k] = 0;
+        k += 1;
+    }
 }
 
 /// Puts each script at its start, and notes that there is no grant.

@@ -1,11 +1,30 @@
-use Rattle.std.proofs.Common.{ℕ, replicate, ap, ◌∙◌, arith}
-use lib.ListN.{length-take}
-use Rattle.encoding.proofs.Clearing.{cleared}
+use Rattle.std.proofs.Common.{refl, arith, length-set}
+use Rattle.encoding.proofs.Clearing.{clearing_none, clearing_more, cleared, cleared_short}
 use Rattle.encoding.proofs.outset.clear_places.Goals as goal
+
+pub loop-k-init : goal.loop-k-init
+loop-k-init c = (omega arith, refl, clearing_none c.args.places.now c.args.n)
+
+pub returns-then-n-k : goal.returns-then-n-k
+returns-then-n-k c =
+    let o = c.args in
+    let turn = c.loop-k in
+    cleared o.places.now o.n turn.places turn.k turn.invariant.2 c.if-n-k.true
+
+pub bounds-places-k : goal.bounds-places-k
+bounds-places-k c = omega arith
+
+pub loop-k-smaller : goal.loop-k-smaller
+loop-k-smaller c = omega arith
+
+pub loop-k-preserved : goal.loop-k-preserved
+loop-k-preserved c =
+    let o = c.args in
+    let turn = c.loop-k in
+    (omega arith, simp length-set turn.invariant.1, clearing_more o.places.now o.n turn.places turn.k turn.invariant.2 c.if-n-k.false)
 
 pub returns : goal.returns
 returns c =
     let o = c.args in
-    let room = c.min-room in
-    cleared o.places.now _ o.n room.result (omega (arith, c.saturating_mul.ensures, room.ensures))
-    (c.fill.ensures.after (λ y e. e) ∙ ap (λ (k : ℕ). replicate k 0) (omega (arith, length-take room.result o.places.now, room.ensures)))
+    let turn = c.loop-k in
+    cleared_short o.places.now o.n turn.places turn.k turn.invariant.2 (omega arith)
