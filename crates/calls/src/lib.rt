@@ -12,7 +12,7 @@ mod obtain;
 mod release;
 mod start;
 pub mod task;
-mod tick;
+pub mod tick;
 
 ghost use Rattle.std.specs.Prelude.{◌≡◌};
 ghost use Rattle.rules.specs.Calls.{answered, perform};
