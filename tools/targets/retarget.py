@@ -19,7 +19,7 @@ ALIGN = r"align [1248]"
 # Two that come back together: numbers, a pointer and a length, or a number and a pointer. In memory the second stands at the next multiple
 # of its own width, a pointer's being 8 as on x86-64, and a number of 64 bits is aligned to 8 on the processors that are known here. What is
 # read at once with a pointer in second place is read part by part instead (`apart`), since there a pointer of 32 bits would be looked for at 4.
-PAIR = r"\{ (?:ptr, i64|i(?:8|16|32|64), (?:ptr|i(?:8|16|32|64))) \}"
+PAIR = r"\{ (?:ptr, i64|i8, (?:ptr|i(?:8|32|64))|i32, i32|i64, i(?:32|64)) \}"
 # The place of an empty array, of which no byte is ever read.
 EMPTY = r"@static\.\d+"
 
