@@ -47,6 +47,7 @@ EDITS = {
     "an empty array that is read": first(r"(  ret void)", r"  %r900 = load i32, ptr @static.0, align 4\n\1"),
     "a pair with a pointer in it": first(r"= load \{ i(?:8|32), i32 \}", "= load { ptr, i32 }"),
     "a pair with a number of 64 bits": first(r"ret \{ i(?:8|32), i32 \}", "ret { i32, i64 }"),
+    "a pair of 64 bits and 32": first(r"ret \{ i(?:8|32), i32 \}", "ret { i64, i32 }"),
     "a pair of pointers": first(r"ret \{ i(?:8|32), i32 \}", "ret { ptr, ptr }"),
     "a pair with a number of 128 bits": first(r"ret \{ i(?:8|32), i32 \}", "ret { i32, i128 }"),
     "three that come back together": first(r"ret \{ i(?:8|32), i32 \}", "ret { i32, i32, i32 }"),

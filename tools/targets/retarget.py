@@ -19,7 +19,7 @@ ALIGN = r"align [1248]"
 # Two that come back together: numbers, a pointer and a length, or a number and a pointer. In memory the second stands at the next multiple
 # of its own width, a pointer's being 8 as on x86-64, and a number of 64 bits is aligned to 8 on the processors that are known here. What is
 # read at once with a pointer in second place is read part by part instead (`apart`), since there a pointer of 32 bits would be looked for at 4.
-PAIR = r"\{ (?:ptr, i64|i8, (?:ptr|i(?:8|32|64))|i32, i32|i64, i(?:32|64)) \}"
+PAIR = r"\{ (?:ptr, i64|i8, (?:ptr|i(?:8|32|64))|i32, i32|i64, i64) \}"
 # The place of an empty array, of which no byte is ever read.
 EMPTY = r"@static\.\d+"
 
@@ -59,6 +59,16 @@ OUTER = (
 PARAMETER = rf"(?:ptr noundef|{INT}(?: noundef)?(?: zeroext)?) %a\d+"
 DEFINITION = rf"define internal (?:noundef (?:zeroext )?{INT}|(?:noundef )?{PAIR}|void) {NAME}\((?:{PARAMETER}(?:, {PARAMETER})*)?\) #0 \{{"
 BODY, OUTER, DEFINITION = (re.compile("|".join(forms)) for forms in (BODY, OUTER, [DEFINITION]))
+
+# How functions are made, where not for size with what they call taken in. Each call, and an obtain's and a tick's step, keeps a frame of its own:
+# taken into the one function that serves them all, they would add up. The look at words that have to be 0, which reads nearly all of the tables,
+# is made once and for speed. The rest is made for size alone, but for the crates in which most of a call's instructions lie, for the calls, whose
+# frames would grow, and for mast_load, which would ask for a division on armv7a.
+MADE = (
+    (r"calls\.(\w+)\.\2|calls\.tick\.elapse|semaphore\.Semaphore\.take", "noinline #0"),
+    (r"words\.is_blank", "noinline nounwind"),
+    (r"(?!(?:agreement|words|tables|state|lookup|calls)\.|capi_state[._]mast_load)[\w.]+", "minsize #0"),
+)
 
 OFFSET = re.compile(rf"  ({R}) = getelementptr .*ptr ({R}), i64 (\d+)")
 ACCESS = re.compile(rf"  (?:{R} = load|store) ({INT}|ptr|{PAIR})(?: (?:{VALUE}|{EMPTY}))?, ptr ({R}),")
@@ -150,9 +160,8 @@ def retargeted(crate, text, layout, triple):
         else:
             text = text.replace(f"define internal {function.given()} {function.inner_name()}", f"define hidden {function.given()} @{function.raw_name()}")
     text = plainly_named(text)
-    # Each call, and an obtain's and a tick's step, keeps a frame of its own: taken into the one function that serves them all, they would add up.
-    kept = r"calls\.(\w+)\.\2|calls\.tick\.elapse|semaphore\.Semaphore\.take"
-    text = re.sub(rf"^(define internal .*@(?:{kept})\(.*\)) #0 \{{$", r"\1 noinline #0 {", text, flags=re.M)
+    for names, attributes in MADE:
+        text = re.sub(rf"^(define .*@(?:{names})\(.*\)) (?P<kept>(?:noinline )?)#0 \{{$", rf"\1 \g<kept>{attributes} {{", text, flags=re.M)
     # A length of 64 bits would be handed to memmove and memset as it is, whose lengths have 32.
     text = re.sub(r"@(llvm\.mem[\w.]+)\.i64\((.*), i64( \d+)?, i1", r"@\1.i32(\2, i32\3, i1", text)
     return text

@@ -152,100 +152,73 @@ impl Semaphore {
 
     /// One semaphore's step of an obtain; a caller that waits joins the queue at the rear.
     #[tactic(auto, using(crate::proofs::TakeGive::taking))]
-    pub fn take(self, caller: u32, wait: Wait) -> Result<Taken, Refusal>
+    pub fn take(mut self, caller: u32, wait: Wait) -> Result<Taken, Refusal>
         requires { Padded self × (self.waiters < 32) }
         ensures { TakenIs self result (take_step (slot_from self) caller wait) }
     {
         if self.count >= 1 {
-            let passed = Semaphore {
-                count: self.count - 1,
-                ..self
-            };
+            self.count -= 1;
             if rules::is_binary(self.attributes) {
-                let owned = Semaphore {
-                    owner: caller,
-                    nest: 1,
-                    ..passed
-                };
-                return Ok(Taken {
-                    semaphore: owned,
-                    waits: false,
-                });
+                self.owner = caller;
+                self.nest = 1;
             }
             return Ok(Taken {
-                semaphore: passed,
+                semaphore: self,
                 waits: false,
             });
         }
         if self.is_held_by(caller) {
-            let nest = self.nest.checked_add(1).ok_or(Refusal::Unsatisfied)?;
+            self.nest = self.nest.checked_add(1).ok_or(Refusal::Unsatisfied)?;
             return Ok(Taken {
-                semaphore: Semaphore { nest, ..self },
+                semaphore: self,
                 waits: false,
             });
         }
         if polls(wait) {
             return Err(Refusal::Unsatisfied);
         }
-        let mut queue = self.queue;
-        queue[self.waiters as usize] = caller;
+        self.queue[self.waiters as usize] = caller;
+        self.waiters += 1;
         Ok(Taken {
-            semaphore: Semaphore {
-                waiters: self.waiters + 1,
-                queue,
-                ..self
-            },
+            semaphore: self,
             waits: true,
         })
     }
 
     // What a release does to a semaphore that the caller may give and does not hold twice; the waiter at `place` is served.
     #[tactic(auto, using(crate::proofs::TakeGive::passing))]
-    fn passed_on(self, place: usize) -> Result<Given, Refusal>
+    fn passed_on(mut self, place: usize) -> Result<Given, Refusal>
         requires { Padded self × (self.count ≤ self.maximum) × (1 ≤ self.waiters → place < self.waiters) }
         ensures { GivenIs self result (pass_step (slot_from self) place) }
     {
         if self.waiters >= 1 {
             let served = self.queue[place];
-            let shorter = Semaphore {
-                waiters: self.waiters - 1,
-                queue: removed(self.queue, place),
-                ..self
-            };
+            self.waiters -= 1;
+            self.queue = removed(self.queue, place);
             if rules::is_binary(self.attributes) {
-                let handed = Semaphore {
-                    owner: served,
-                    nest: 1,
-                    ..shorter
-                };
-                return Ok(Given {
-                    semaphore: handed,
-                    woken: Some(served),
-                });
+                self.owner = served;
+                self.nest = 1;
             }
             return Ok(Given {
-                semaphore: shorter,
+                semaphore: self,
                 woken: Some(served),
             });
         }
         if self.count == self.maximum {
             return Err(Refusal::Unsatisfied);
         }
-        let raised = Semaphore {
-            count: self.count + 1,
-            owner: 0,
-            nest: 0,
-            ..self
-        };
+        self.count += 1;
+        self.owner = 0;
+        self.nest = 0;
         Ok(Given {
-            semaphore: raised,
+            semaphore: self,
             woken: None,
         })
     }
 
     /// One semaphore's step of a release, which serves the waiter at `place`.
     #[tactic(auto, using(crate::proofs::TakeGive::giving))]
-    pub fn give(self, caller: u32, place: usize) -> Result<Given, Refusal>
+    pub fn give(mut self, caller: u32, place: usize) -> Result<Given, Refusal>
         requires { Padded self × (self.count ≤ self.maximum) × (1 ≤ self.waiters → place < self.waiters) }
         ensures { GivenIs self result (give_step (slot_from self) caller place) }
     {
@@ -256,11 +229,9 @@ impl Semaphore {
             return Err(Refusal::NotOwnerOfResource);
         }
         if self.nest >= 2 {
+            self.nest -= 1;
             return Ok(Given {
-                semaphore: Semaphore {
-                    nest: self.nest - 1,
-                    ..self
-                },
+                semaphore: self,
                 woken: None,
             });
         }
@@ -282,16 +253,14 @@ impl Semaphore {
 
     /// The same semaphore, its queue without the tasks whose wait has ended.
     #[tactic(auto, using(crate::proofs::TakeGive::stands_kept))]
-    pub fn without(self, expired: [bool; 32]) -> Semaphore
+    pub fn without(mut self, expired: [bool; 32]) -> Semaphore
         requires { Padded self × TasksOnly self.waiters self.queue }
         ensures { Stands result (slot_keeping (slot_from self) expired) }
     {
         let kept = filtered(self.queue, self.waiters, expired);
+        self.waiters = kept.waiters;
         let queue = kept.tasks;
-        Semaphore {
-            waiters: kept.waiters,
-            queue,
-            ..self
-        }
+        self.queue = queue;
+        self
     }
 }

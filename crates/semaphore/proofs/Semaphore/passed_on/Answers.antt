@@ -5,8 +5,8 @@ use Rattle.semaphore.proofs.Semaphore.passed_on.Goals as goal
 
 pub returns-then-is_binary : goal.returns-then-is_binary
 returns-then-is_binary c =
-    pass_owned c.args.self c.requires.0 c.args.place c.if-self-ge1.true c.requires.2 _ c.removed.ensures (sym c.is_binary.ensures ∙ c.if-is_binary.true)
+    pass_owned c.args.self c.requires.0 c.args.place c.if-self-ge1.true c.requires.2 _ c.removed-self.ensures (sym c.is_binary.ensures ∙ c.if-is_binary.true)
 
-pub returns-then-self-ge1 : goal.returns-then-self-ge1
-returns-then-self-ge1 c =
-    pass_handed c.args.self c.requires.0 c.args.place c.if-self-ge1.true c.requires.2 _ c.removed.ensures (sym c.is_binary.ensures ∙ c.if-is_binary.false)
+pub returns-else-is_binary : goal.returns-else-is_binary
+returns-else-is_binary c =
+    pass_handed c.args.self c.requires.0 c.args.place c.if-self-ge1.true c.requires.2 _ c.removed-self.ensures (sym c.is_binary.ensures ∙ c.if-is_binary.false)
